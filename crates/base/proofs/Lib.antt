@@ -1,0 +1,2 @@
+-- Laws that callers of `base` use.
+pub mod Table

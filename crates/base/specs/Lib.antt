@@ -1,0 +1,2 @@
+-- The definitions that every rule uses.
+pub mod Sum

@@ -1,0 +1,34 @@
+// What every rule uses: total helpers, each with one equation for its promise.
+ghost use mathlib.Core.Path.{_≡_};
+ghost use mathlib.Core.Bool.{cond};
+ghost use Prim.Native.Nat.{_-_, _<_};
+ghost use Rattle.base.specs.Sum.{rolled};
+
+// A number where a test holds, and otherwise what the later tests gave.
+pub fn first(test: bool, number: u32, later: u32) -> u32
+    ensures chosen { λ r. ⌜ r ≡ cond test number later ⌝ }
+{
+    if test { number } else { later }
+}
+
+// a - b, and 0 where b is more.
+pub fn less(a: u32, b: u32) -> u32
+    ensures difference { λ r. ⌜ r ≡ a - b ⌝ }
+{
+    if a < b { 0 } else { a - b }
+}
+
+// A byte made wide, with its bound.
+pub fn wide(byte: u8) -> u32
+    ensures same { λ r. ⌜ r ≡ byte ⌝ }
+    ensures bound { λ r. ⌜ r < 256 ⌝ }
+{
+    byte as u32
+}
+
+// A sum of 24 bits, which rolls over past #FFFFFF.
+pub fn rolled_sum(a: u32, b: u32) -> u32
+    ensures rolled { λ r. ⌜ r ≡ rolled a b ⌝ }
+{
+    ((a as u64 + b as u64) % 0x1000000) as u32
+}

@@ -1,0 +1,2 @@
+-- Laws that callers of `control` use.
+pub mod Laws

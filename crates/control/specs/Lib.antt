@@ -1,0 +1,2 @@
+-- The rules of control A.
+pub mod Control

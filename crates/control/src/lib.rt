@@ -1,0 +1,78 @@
+// Control A (01, "Register map"): which words are in the build, and what their bits mean. Any number may be asked about.
+ghost use mathlib.Core.Path.{_≡_};
+ghost use Rattle.control.specs.Control.{running, plain, blanked, transferring, cursorOn, outside, depth, shiftPeriod, increment};
+
+// In screen units, by depth: 1, 2, 4 and 8 bits.
+const SHIFT_PERIODS: [u32; 4] = [16, 8, 4, 2];
+
+// By bits 13 and 12.
+const INCREMENTS: [u32; 4] = [1, 256, 512, 1024];
+
+// Bit 0: the generator runs.
+pub fn is_running(control: u32) -> bool
+    ensures bit { λ r. ⌜ r ≡ running control ⌝ }
+{
+    control / 0x1 % 2 == 1
+}
+
+// Bit 4: plain flyback sync; tesselated where it is 0.
+pub fn is_plain(control: u32) -> bool
+    ensures bit { λ r. ⌜ r ≡ plain control ⌝ }
+{
+    control / 0x10 % 2 == 1
+}
+
+// Bit 10: blanking is forced.
+pub fn is_blanked(control: u32) -> bool
+    ensures bit { λ r. ⌜ r ≡ blanked control ⌝ }
+{
+    control / 0x400 % 2 == 1
+}
+
+// Bit 14 switches row transfers off.
+pub fn is_transferring(control: u32) -> bool
+    ensures bit { λ r. ⌜ r ≡ transferring control ⌝ }
+{
+    !(control / 0x4000 % 2 == 1)
+}
+
+// Bit 23 switches the cursor off.
+pub fn is_cursor_on(control: u32) -> bool
+    ensures bit { λ r. ⌜ r ≡ cursorOn control ⌝ }
+{
+    !(control / 0x800000 % 2 == 1)
+}
+
+// Refusal 4: a mode that the build does not have.
+pub fn is_outside(control: u32) -> bool
+    ensures refusal { λ r. ⌜ r ≡ outside control ⌝ }
+{
+    (control / 0x2 % 2 != 0)
+        | (control / 0x8 % 2 != 0)
+        | (control / 0x800 % 2 != 0)
+        | (control / 0x8000 % 0x20 != 0)
+        | (control / 0x400000 % 2 != 0)
+}
+
+// 0, 1, 2 and 3 for 1, 2, 4 and 8 bits a pixel.
+pub fn depth_code(control: u32) -> u32
+    ensures code { λ r. ⌜ r ≡ depth control ⌝ }
+{
+    control / 0x100000 % 4
+}
+
+// The shift period, in screen units.
+pub fn shift_period(control: u32) -> u32
+    ensures period { λ r. ⌜ r ≡ shiftPeriod control ⌝ }
+{
+    let depth = (control / 0x100000 % 4) as usize;
+    SHIFT_PERIODS[depth]
+}
+
+// The address increment.
+pub fn address_increment(control: u32) -> u32
+    ensures increment { λ r. ⌜ r ≡ increment control ⌝ }
+{
+    let code = (control / 0x1000 % 4) as usize;
+    INCREMENTS[code]
+}
