@@ -1,8 +1,8 @@
 // What every rule uses: total helpers, each with one equation for its promise.
 ghost use mathlib.Core.Path.{_≡_};
 ghost use mathlib.Core.Bool.{cond};
-ghost use Prim.Native.Nat.{_-_, _<_};
-ghost use Rattle.base.specs.Sum.{rolled};
+ghost use Prim.Native.Nat.{_-_, _*_, _<_};
+ghost use Rattle.base.specs.Sum.{rolled, capped};
 
 // A number where a test holds, and otherwise what the later tests gave.
 pub fn first(test: bool, number: u32, later: u32) -> u32
@@ -31,4 +31,17 @@ pub fn rolled_sum(a: u32, b: u32) -> u32
     ensures rolled { λ r. ⌜ r ≡ rolled a b ⌝ }
 {
     ((a as u64 + b as u64) % 0x1000000) as u32
+}
+
+// A product of any two counts, which stops at the largest that 64 bits hold.
+pub fn product(a: u64, b: u64) -> u64
+    ensures capped { λ r. ⌜ r ≡ capped (a * b) ⌝ }
+{
+    if b == 0 {
+        return 0;
+    }
+    if a <= u64::MAX / b {
+        return a * b;
+    }
+    u64::MAX
 }

@@ -5,10 +5,10 @@ use mathlib.Core.Bool.{Bool, cond}
 use native.Mathlib.Omega.{arith}
 use lib.Dec.{leb, eqb, eqb→eq, leb→le}
 use Rattle.base.proofs.Table.{entry}
-use Rattle.control.specs.Control.{field, depth, shiftPeriods, shiftPeriod, increments, increment}
+use Rattle.control.specs.Control.{field, depth, pixelBits, shiftPeriods, shiftPeriod, increments, increment}
 
 -- a shift period, whatever the depth, shifts 16 bits for each of the four pixels of a unit
-pub shift-period-rule : (control : ℕ) → shiftPeriod control * 2 ^ depth control ≡ 16
+pub shift-period-rule : (control : ℕ) → shiftPeriod control * pixelBits control ≡ 16
 shift-period-rule control =
     eqb→eq _ _ (entry (λ code period. eqb (period * 2 ^ code) 16) shiftPeriods tt (depth control) (omega arith))
 

@@ -45,6 +45,10 @@ outside control =
 abbrev pub depth : ℕ → ℕ
 depth control = field 20 2 control
 
+-- bits a pixel
+abbrev pub pixelBits : ℕ → ℕ
+pixelBits control = 2 ^ depth control
+
 -- the shift periods, in screen units, for 1, 2, 4 and 8 bits
 abbrev pub shiftPeriods : List ℕ
 shiftPeriods = 16 ∷ 8 ∷ 4 ∷ 2 ∷ []

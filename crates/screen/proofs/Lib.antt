@@ -1,0 +1,3 @@
+-- Laws that callers of `screen` use.
+pub mod Laws
+pub mod Counts

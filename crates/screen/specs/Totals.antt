@@ -1,0 +1,47 @@
+-- What one frame comes to (01, "The bench screen and its neighbours", first row; demand 3). Assumes nothing.
+use Prim.Native.Nat.{ℕ, _+_, _-_, _*_, _/_}
+use mathlib.Core.Bool.{cond}
+use lib.Dec.{eqb}
+use Rattle.screen.specs.Parameters.{halfTicks, frameLines, rowLength}
+use Rattle.screen.specs.Limits.{limitOf}
+use Rattle.screen.specs.declared.ScreenUnits.{ScreenUnits}
+use Rattle.screen.specs.declared.Pixels.{Pixels}
+use Rattle.screen.specs.declared.Screen.{Screen}
+use Rattle.screen.specs.declared.Totals.{Totals}
+
+-- half the line time times the sum of the five half-line counts
+abbrev pub frameTicks : Screen → ℕ
+frameTicks s = halfTicks s * frameLines s
+
+-- Display for each displayed line, which is two half lines
+abbrev pub frameVisible : Screen → ℕ
+frameVisible s = s .display .0 * (s .vdisplay .0 / 2)
+
+-- n over d, rounded up
+abbrev pub roundedUp : ℕ → ℕ → ℕ
+roundedUp n d = (n + (d - 1)) / d
+
+-- the visible ticks over the row length, rounded up
+abbrev pub frameTransfers : Screen → ℕ
+frameTransfers s = roundedUp (frameVisible s) (rowLength s)
+
+-- four pixels to a visible tick
+abbrev pub framePixels : Screen → ℕ
+framePixels s = 4 * frameVisible s
+
+abbrev pub counted : Screen → Totals
+counted s =
+    record {
+      refusal = 0;
+      ticks = record { 0 = frameTicks s };
+      visible = record { 0 = frameVisible s };
+      transfers = frameTransfers s;
+      pixels = record { 0 = framePixels s };
+    }
+
+-- a refusal answers its number, and 0 for all else
+abbrev pub refused : ℕ → Totals
+refused n = record { refusal = n; ticks = record { 0 = 0 }; visible = record { 0 = 0 }; transfers = 0; pixels = record { 0 = 0 } }
+
+unfoldable pub totalsOf : ℕ → Screen → Totals
+totalsOf control s = cond (eqb (limitOf control s) 0) (counted s) (refused (limitOf control s))

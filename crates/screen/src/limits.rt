@@ -1,0 +1,102 @@
+// Refusals 10 to 17 (01, "Refusal numbers"). The first bounds every count that the later ones add up.
+ghost use mathlib.Core.Path.{_≡_};
+ghost use Rattle.screen.specs.Limits.{off, refuses10, refuses11, refuses12, refuses13, refuses14, refuses15, refuses16, refuses17, laterLimit, limitOf, Bounded};
+use crate::Screen;
+
+// The largest screen parameter.
+const MOST: u64 = 4095;
+
+fn is_off(n: u64) -> bool
+    ensures off { λ r. ⌜ r ≡ off n ⌝ }
+{
+    (n == 0) | (MOST < n)
+}
+
+fn refuses_10(s: Screen) -> bool
+    ensures refusal { λ r. ⌜ r ≡ refuses10 s ⌝ }
+{
+    is_off(s.halfsync.0)
+        | is_off(s.backporch.0)
+        | is_off(s.display.0)
+        | is_off(s.shortdisplay.0)
+        | is_off(s.broadpulse.0)
+        | is_off(s.vsync.0)
+        | is_off(s.vpreequalise.0)
+        | is_off(s.vpostequalise.0)
+        | is_off(s.vblank.0)
+        | is_off(s.vdisplay.0)
+        | is_off(s.linetime.0)
+        | is_off(s.meminit.0)
+        | is_off(s.transferdelay.0)
+}
+
+fn refuses_11(s: Screen) -> bool
+    ensures refusal { λ r. ⌜ r ≡ refuses11 s ⌝ }
+{
+    s.linetime.0 % 2 == 1
+}
+
+fn refuses_12(s: Screen) -> bool
+    requires { ⌜ Bounded 0xFFFFFF s ⌝ }
+    ensures refusal { λ r. ⌜ r ≡ refuses12 s ⌝ }
+{
+    !(2 * s.halfsync.0 + s.backporch.0 + s.display.0 < s.linetime.0)
+}
+
+fn refuses_13(s: Screen) -> bool
+    requires { ⌜ Bounded 0xFFFFFF s ⌝ }
+    ensures refusal { λ r. ⌜ r ≡ refuses13 s ⌝ }
+{
+    !(2 * s.halfsync.0 + s.backporch.0 + s.shortdisplay.0 < s.linetime.0 / 2)
+}
+
+fn refuses_14(s: Screen) -> bool
+    ensures refusal { λ r. ⌜ r ≡ refuses14 s ⌝ }
+{
+    !(s.broadpulse.0 < s.linetime.0 / 2)
+}
+
+fn refuses_15(control: u32, s: Screen) -> bool
+    ensures refusal { λ r. ⌜ r ≡ refuses15 control s ⌝ }
+{
+    let period = control::shift_period(control) as u64;
+    !(s.display.0 % period == 0)
+}
+
+fn refuses_16(s: Screen) -> bool
+    ensures refusal { λ r. ⌜ r ≡ refuses16 s ⌝ }
+{
+    (s.vdisplay.0 % 2 == 1) | (s.vblank.0 % 2 == 1)
+}
+
+fn refuses_17(s: Screen) -> bool
+    requires { ⌜ Bounded 0xFFFFFF s ⌝ }
+    ensures refusal { λ r. ⌜ r ≡ refuses17 s ⌝ }
+{
+    !(s.transferdelay.0 + 1 < s.backporch.0) | (s.shortdisplay.0 < s.transferdelay.0)
+}
+
+// The lowest of 11 to 17 that holds, or 0.
+fn later_limit(control: u32, s: Screen) -> u32
+    requires { ⌜ Bounded 0xFFFFFF s ⌝ }
+    ensures refusal { λ r. ⌜ r ≡ laterLimit control s ⌝ }
+{
+    let n17 = base::first(refuses_17(s), 17, 0);
+    let n16 = base::first(refuses_16(s), 16, n17);
+    let n15 = base::first(refuses_15(control, s), 15, n16);
+    let n14 = base::first(refuses_14(s), 14, n15);
+    let n13 = base::first(refuses_13(s), 13, n14);
+    let n12 = base::first(refuses_12(s), 12, n13);
+    base::first(refuses_11(s), 11, n12)
+}
+
+// The lowest of 10 to 17 that holds under a control value, or 0: for any numbers.
+pub fn limit(control: u32, s: Screen) -> u32
+    ensures refusal { λ r. ⌜ r ≡ limitOf control s ⌝ }
+{
+    let wrong = refuses_10(s);
+    if wrong {
+        return 10;
+    }
+    later_limit(control, s)
+}
