@@ -1,2 +1,3 @@
 -- The definitions that every rule uses.
 pub mod Sum
+pub mod Count

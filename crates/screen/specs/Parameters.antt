@@ -7,7 +7,7 @@ use Rattle.screen.specs.declared.HalfLines.{HalfLines}
 use Rattle.screen.specs.declared.Screen.{Screen}
 
 -- the registers #021 to #02E as a screen
-abbrev pub screenOf : List ℕ → Screen
+unfoldable pub screenOf : List ℕ → Screen
 screenOf params =
     record {
       halfsync = record { 0 = getD params 0 0 };

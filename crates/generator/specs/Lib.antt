@@ -1,0 +1,5 @@
+-- The rules of a tick: lines and frames, rows, what goes out, and the one condition.
+pub mod Lines
+pub mod Rows
+pub mod Tick
+pub mod Sound

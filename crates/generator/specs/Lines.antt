@@ -1,0 +1,81 @@
+-- Lines and frames (01, the section of that name): where a tick stands. s: the screen, half: the half line's number in the frame,
+-- at: the tick's number in the half line. Assumes nothing.
+use Prim.Native.Nat.{ℕ, _+_, _*_, _/_, _%_}
+use mathlib.Core.Bool.{Bool, true, false, not, cond, _&&_, _||_}
+use lib.Dec.{ltb, leb, eqb}
+use Rattle.screen.specs.Parameters.{halfTicks, displayFrom, flybackLines, blankLines, frameLines}
+use Rattle.screen.specs.declared.Screen.{Screen}
+use Rattle.generator.specs.declared.Period.{Period}
+use Rattle.generator.specs.declared.Period.the-variants.{PreEqualise, VSync, PostEqualise, VBlank, VDisplay}
+
+-- a frame is its five periods, counted in half lines
+unfoldable pub period : Screen → ℕ → Period
+period s half =
+    cond (ltb half (s .vpreequalise .0)) PreEqualise
+    (cond (ltb half (s .vpreequalise .0 + s .vsync .0)) VSync
+    (cond (ltb half (flybackLines s)) PostEqualise
+    (cond (ltb half (blankLines s)) VBlank
+    VDisplay)))
+
+abbrev pub isVSync : Period → Bool
+isVSync PreEqualise = false
+isVSync VSync = true
+isVSync PostEqualise = false
+isVSync VBlank = false
+isVSync VDisplay = false
+
+abbrev pub isVDisplay : Period → Bool
+isVDisplay PreEqualise = false
+isVDisplay VSync = false
+isVDisplay PostEqualise = false
+isVDisplay VBlank = false
+isVDisplay VDisplay = true
+
+-- full lines are two half lines each, counted from VBlank's first
+abbrev pub lineFrom : Screen → ℕ
+lineFrom s = flybackLines s
+
+unfoldable pub secondHalf : Screen → ℕ → Bool
+secondHalf s half = eqb ((half + lineFrom s) % 2) 1
+
+-- the tick's number in its full line
+unfoldable pub inLine : Screen → ℕ → ℕ → ℕ
+inLine s half at = cond (secondHalf s half) (halfTicks s + at) at
+
+-- a full line is twice HalfSync, BackPorch, Display, then front porch
+abbrev pub inDisplay : Screen → ℕ → Bool
+inDisplay s tick = leb (displayFrom s) tick && ltb tick (displayFrom s + s .display .0)
+
+-- a visible tick is a Display tick inside VDisplay
+unfoldable pub visible : Screen → ℕ → ℕ → Bool
+visible s half at = isVDisplay (period s half) && inDisplay s (inLine s half at)
+
+-- sync is low, by the period: tesselated or plain
+unfoldable pub syncLow : Screen → Bool → ℕ → ℕ → Bool
+syncLow s plain half at = low (period s half)
+  where
+    low : Period → Bool
+    low PreEqualise = not plain && ltb at (s .halfsync .0)
+    low VSync = plain || ltb at (s .broadpulse .0)
+    low PostEqualise = not plain && ltb at (s .halfsync .0)
+    low VBlank = ltb (inLine s half at) (2 * s .halfsync .0)
+    low VDisplay = ltb (inLine s half at) (2 * s .halfsync .0)
+
+-- the first tick of VDisplay
+unfoldable pub opens : Screen → ℕ → ℕ → Bool
+opens s half at = eqb half (blankLines s) && eqb at 0
+
+-- the frame's last tick
+unfoldable pub closes : Screen → ℕ → ℕ → Bool
+closes s half at = leb (frameLines s) (half + 1) && leb (halfTicks s) (at + 1)
+
+-- one tick on: the next of the half line, the first of the next half line, or the frame's first
+unfoldable pub nextHalf : Screen → ℕ → ℕ → ℕ
+nextHalf s half at = cond (ltb (at + 1) (halfTicks s)) half (cond (ltb (half + 1) (frameLines s)) (half + 1) 0)
+
+unfoldable pub nextAt : Screen → ℕ → ℕ
+nextAt s at = cond (ltb (at + 1) (halfTicks s)) (at + 1) 0
+
+-- the tick's number in the frame
+abbrev pub tickNumber : Screen → ℕ → ℕ → ℕ
+tickNumber s half at = half * halfTicks s + at

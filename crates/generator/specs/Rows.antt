@@ -1,0 +1,64 @@
+-- Rows (01, "Rows and pixels"): top of screen, transfers, addresses, the request. r: the registers, g: the generator before the tick.
+-- Assumes nothing.
+use Prim.Native.Nat.{ℕ, _+_, _*_, _/_, _%_}
+use mathlib.Core.Bool.{Bool, cond, _&&_}
+use lib.Dec.{ltb, leb, eqb}
+use Rattle.base.specs.Sum.{rolled}
+use Rattle.control.specs.Control.{transferring, increment}
+use Rattle.screen.specs.Parameters.{screenOf, halfTicks, displayFrom, blankLines, rowLength}
+use Rattle.screen.specs.Totals.{frameVisible}
+use Rattle.screen.specs.declared.Screen.{Screen}
+use Rattle.registers.specs.declared.Registers.{Registers}
+use Rattle.generator.specs.Lines.{visible, opens, tickNumber}
+use Rattle.generator.specs.declared.Generator.{Generator}
+
+abbrev pub screen : Registers → Screen
+screen r = screenOf (r .params)
+
+unfoldable pub visibleAt : Registers → Generator → Bool
+visibleAt r g = visible (screen r) (g .half .0) (g .at .0)
+
+-- the top that a frame starts at
+abbrev pub topUsed : Registers → ℕ
+topUsed r = r .top
+
+-- top of screen is taken up at the first VDisplay tick
+unfoldable pub taken : Registers → Generator → ℕ
+taken r g = cond (opens (screen r) (g .half .0) (g .at .0)) (topUsed r) (g .held)
+
+-- a transfer happens at v when v is a multiple of R
+unfoldable pub transferAt : Registers → Generator → Bool
+transferAt r g = visibleAt r g && eqb (g .seen .0 % rowLength (screen r)) 0
+
+-- first from top, then from the last address plus the increment, modulo 2^24
+unfoldable pub heldAddress : Registers → Generator → ℕ
+heldAddress r g = cond (transferAt r g && ltb 0 (g .seen .0)) (rolled (taken r g) (increment (r .control))) (taken r g)
+
+-- the row number is the held address over the current increment, rounded down
+abbrev pub rowNumber : Registers → ℕ → ℕ
+rowNumber r address = address / increment (r .control)
+
+-- its first pixel stands row x R x 4 pixels from the beginning; pixel k of visible tick v, where an address is held
+unfoldable pub place : Registers → ℕ → ℕ → ℕ → ℕ
+place r address v k = (rowNumber r address * rowLength (screen r) + v % rowLength (screen r)) * 4 + k
+
+-- the request at visible tick v: v mod R is at least MemInit
+unfoldable pub asks : Registers → ℕ → Bool
+asks r v = transferring (r .control) && leb (screen r .meminit .0) (v % rowLength (screen r))
+
+-- the number of the frame's first visible tick
+abbrev pub firstVisible : Screen → ℕ
+firstVisible s = tickNumber s (blankLines s) (displayFrom s)
+
+-- one of the TransferDelay ticks just before it
+unfoldable pub leads : Screen → ℕ → ℕ → Bool
+leads s half at =
+    ltb (tickNumber s half at) (firstVisible s) && leb (firstVisible s) (tickNumber s half at + s .transferdelay .0)
+
+-- between lines the request keeps its value at the visible tick before; after the frame's last visible tick it is low
+unfoldable pub requestAt : Registers → Generator → Bool
+requestAt r g =
+    transferring (r .control)
+    && cond (visibleAt r g) (asks r (g .seen .0))
+    (cond (eqb (g .seen .0) 0) (leads (screen r) (g .half .0) (g .at .0))
+    (ltb (g .seen .0) (frameVisible (screen r)) && g .asked))

@@ -1,0 +1,31 @@
+-- The one condition (01, "What nobody may get past"): what every record satisfies that the calls can give from the beginning.
+-- Assumes nothing.
+use Prim.Native.Nat.{ℕ, _/_, _%_, _<_, _≤_}
+use mathlib.Core.Bool.{Bool, true, false}
+use mathlib.Core.Path.{_≡_}
+use Rattle.base.specs.Count.{count}
+use Rattle.control.specs.Control.{running, outside}
+use Rattle.screen.specs.Parameters.{halfTicks, frameLines}
+use Rattle.screen.specs.Limits.{Accepted}
+use Rattle.screen.specs.declared.Screen.{Screen}
+use Rattle.registers.specs.declared.Registers.{Registers}
+use Rattle.generator.specs.Lines.{visible, tickNumber}
+use Rattle.generator.specs.Rows.{screen}
+use Rattle.generator.specs.declared.Generator.{Generator}
+
+-- the frame's visible ticks among its first n
+unfoldable pub shownBefore : Screen → ℕ → ℕ
+shownBefore s n = count (λ k. visible s (k / halfTicks s) (k % halfTicks s)) n
+
+-- the generator stands inside the frame, and has counted the visible ticks before its place
+pub record Placed (s : Screen) (g : Generator) : Type 0 where
+  pub half-in : g .half .0 < frameLines s
+  pub at-in : g .at .0 < halfTicks s
+  pub seen-is : g .seen .0 ≡ shownBefore s (tickNumber s (g .half .0) (g .at .0))
+
+-- registers within their widths and control within the build; running, the limits hold and the generator is placed
+pub record Sound (r : Registers) (g : Generator) : Type 0 where
+  pub in-build : outside (r .control) ≡ false
+  pub top-in : r .top ≤ 0xFFFFFF
+  pub accepted : running (r .control) ≡ true → Accepted (r .control) (screen r)
+  pub placed : running (r .control) ≡ true → Placed (screen r) g

@@ -1,0 +1,122 @@
+-- One tick (01, "Lines and frames", "Rows and pixels"): whether it is refused, what it puts out, the generator after it.
+-- r: the registers, m: the picture memory, g: the generator before the tick. Assumes nothing.
+use Prim.Native.Nat.{ℕ, zero, suc, _+_, _*_, _/_, _%_}
+use mathlib.Core.Bool.{Bool, true, false, not, cond, _&&_}
+use mathlib.Core.List.{List, [], _∷_}
+use lib.Dec.{eqb}
+use Rattle.base.specs.Count.{some, run}
+use Rattle.control.specs.Control.{running, plain, blanked, transferring, pixelBits}
+use Rattle.registers.specs.declared.Registers.{Registers}
+use Rattle.pixel.specs.Memory.{endsBeyond}
+use Rattle.pixel.specs.Dot.{dotAt, black}
+use Rattle.pixel.specs.Sums.{none, summed}
+use Rattle.pixel.specs.declared.Dot.{Dot}
+use Rattle.pixel.specs.declared.Sums.{Sums}
+use Rattle.generator.specs.Lines.{period, isVSync, isVDisplay, syncLow, opens, closes, nextHalf, nextAt}
+use Rattle.generator.specs.Rows.{screen, visibleAt, transferAt, heldAddress, place, asks, requestAt}
+use Rattle.generator.specs.declared.Generator.{Generator}
+use Rattle.generator.specs.declared.Signals.{Signals}
+use Rattle.generator.specs.declared.Ticked.{Ticked}
+
+-- a tick is blank unless visible and not forced blank
+unfoldable pub shows : Registers → Generator → Bool
+shows r g = visibleAt r g && not (blanked (r .control))
+
+-- the cursor position that the colours use
+abbrev pub positionUsed : Registers → ℕ
+positionUsed r = r .position
+
+-- pixel k of visible tick v, where an address is held: Display ticks of four pixels to a line
+unfoldable pub dotOf : Registers → List ℕ → ℕ → ℕ → ℕ → Dot
+dotOf r m address v k =
+    dotAt r (positionUsed r) m (place r address v k) (4 * (v % screen r .display .0) + k) (v / screen r .display .0)
+
+-- a blank tick puts out four black pixels
+unfoldable pub dots : Registers → List ℕ → Generator → List Dot
+dots r m g = cond (shows r g) (run (dotOf r m (heldAddress r g) (g .seen .0)) 0 4) (run (λ k. black) 0 4)
+
+-- refusal 20: one of the four pixels is to be read and ends beyond the memory
+unfoldable pub refuses20 : Registers → List ℕ → Generator → Bool
+refuses20 r m g =
+    shows r g
+    && (transferring (r .control)
+    && some (λ k. endsBeyond (pixelBits (r .control)) m (place r (heldAddress r g) (g .seen .0) k)) 4)
+
+-- sums clear at the first VDisplay tick; each unblanked colour byte is added
+unfoldable pub cleared : Registers → Generator → Sums
+cleared r g = cond (opens (screen r) (g .half .0) (g .at .0)) none (g .sums)
+
+unfoldable pub sumsAfter : Registers → List ℕ → Generator → Sums
+sumsAfter r m g = cond (shows r g) (summed (cleared r g) (dots r m g)) (cleared r g)
+
+-- v counts a frame's visible ticks from 0
+unfoldable pub seenAfter : Registers → Generator → ℕ
+seenAfter r g = cond (visibleAt r g) (g .seen .0 + 1) (g .seen .0)
+
+-- the generator after a tick that is not refused
+unfoldable pub step : Registers → List ℕ → Generator → Generator
+step r m g =
+    record {
+      half = record { 0 = nextHalf (screen r) (g .half .0) (g .at .0) };
+      at = record { 0 = nextAt (screen r) (g .at .0) };
+      seen = record { 0 = cond (closes (screen r) (g .half .0) (g .at .0)) 0 (seenAfter r g) };
+      held = heldAddress r g;
+      asked = cond (visibleAt r g) (asks r (g .seen .0)) (g .asked);
+      sums = sumsAfter r m g;
+    }
+
+-- FrameInactive is high in all but VDisplay; vertical sync is low exactly in VSync; an address is answered only at a transfer
+unfoldable pub signals : Registers → List ℕ → Generator → Signals
+signals r m g =
+    record {
+      sync = not (syncLow (screen r) (plain (r .control)) (g .half .0) (g .at .0));
+      vsync = not (isVSync (period (screen r) (g .half .0)));
+      inactive = not (isVDisplay (period (screen r) (g .half .0)));
+      blank = not (shows r g);
+      request = requestAt r g;
+      transfer = transferring (r .control) && transferAt r g;
+      address = cond (transferring (r .control) && transferAt r g) (heldAddress r g) 0;
+      dots = dots r m g;
+    }
+
+-- a refused tick answers 0 for all else
+abbrev pub silent : Signals
+silent =
+    record {
+      sync = false;
+      vsync = false;
+      inactive = false;
+      blank = false;
+      request = false;
+      transfer = false;
+      address = 0;
+      dots = black ∷ black ∷ black ∷ black ∷ [];
+    }
+
+-- the order for a tick: 23, 20
+unfoldable pub tickRefusal : Registers → List ℕ → Generator → ℕ
+tickRefusal r m g = cond (running (r .control)) (cond (refuses20 r m g) 20 0) 23
+
+-- ONE TICK: a refused one moves nothing
+unfoldable pub tickOf : Registers → List ℕ → Generator → Ticked
+tickOf r m g =
+    cond (eqb (tickRefusal r m g) 0)
+    (record { refusal = 0; signals = signals r m g; next = step r m g })
+    (record { refusal = tickRefusal r m g; signals = silent; next = g })
+
+-- the generator after n ticks with no register touched
+unfoldable pub after : Registers → List ℕ → Generator → ℕ → Generator
+after r m g zero = g
+after r m g (suc n) = tickOf r m (after r m g n) .next
+
+-- a generator before the first tick of PreEqualise, checksums at zero
+abbrev pub fresh : Generator
+fresh =
+    record {
+      half = record { 0 = 0 };
+      at = record { 0 = 0 };
+      seen = record { 0 = 0 };
+      held = 0;
+      asked = false;
+      sums = none;
+    }

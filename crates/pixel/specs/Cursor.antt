@@ -1,0 +1,38 @@
+-- The cursor (01, "Rows and pixels"): 64 by 64 pixels from a signed position. Assumes nothing.
+use Prim.Native.Nat.{ℕ, zero, suc, _+_, _*_, _/_, _%_, _^_}
+use mathlib.Core.Bool.{Bool, cond, _&&_}
+use mathlib.Core.List.{List}
+use lib.Dec.{ltb}
+use lib.IntN.{ℤ, pos, negsuc, _-ℤ_}
+use lib.ListN.{getD}
+use Rattle.control.specs.Control.{field}
+
+-- a 12-bit field in two's complement: from -2,048 to 2,047
+abbrev pub signed12 : ℕ → ℤ
+signed12 n = cond (ltb n 2048) (pos n) (pos n -ℤ pos 4096)
+
+-- the column and the row of pixel x of line y within the cursor: x in bits 23 to 12 of the position, y in bits 11 to 0
+abbrev pub cursorColumn : ℕ → ℕ → ℤ
+cursorColumn position x = pos x -ℤ signed12 (field 12 12 position)
+
+abbrev pub cursorRow : ℕ → ℕ → ℤ
+cursorRow position y = pos y -ℤ signed12 (field 0 12 position)
+
+-- word 8 x row + column/8 holds eight columns, lowest bits first
+abbrev pub codeAt : List ℕ → ℕ → ℕ → ℕ
+codeAt store row column = getD store (8 * row + column / 8) 0 / 4 ^ (column % 8) % 4
+
+-- the code at a row and a column; outside the 64 by 64 it is 00
+abbrev pub codeWithin : List ℕ → ℤ → ℤ → ℕ
+codeWithin store (pos row) (pos column) = cond (ltb row 64 && ltb column 64) (codeAt store row column) 0
+codeWithin store (pos row) (negsuc column) = 0
+codeWithin store (negsuc row) column = 0
+
+-- the code of pixel x of line y under a cursor at a position
+unfoldable pub cursorCode : List ℕ → ℕ → ℕ → ℕ → ℕ
+cursorCode store position x y = codeWithin store (cursorRow position y) (cursorColumn position x)
+
+-- 00 is transparent; 01, 10, 11 are cursor colours 1, 2, 3
+abbrev pub over : List ℕ → ℕ → ℕ → ℕ
+over colours zero below = below
+over colours (suc k) below = getD colours k 0

@@ -1,0 +1,23 @@
+-- The checksums (01, "Rows and pixels"): each unblanked colour byte is added to its 24-bit sum. Assumes nothing.
+use Prim.Native.Nat.{ℕ}
+use mathlib.Core.List.{List, [], _∷_}
+use Rattle.base.specs.Sum.{rolled}
+use Rattle.pixel.specs.Colour.{red, green, blue}
+use Rattle.pixel.specs.declared.Dot.{Dot}
+use Rattle.pixel.specs.declared.Sums.{Sums}
+
+abbrev pub none : Sums
+none = record { red = 0; green = 0; blue = 0 }
+
+abbrev pub added : Sums → Dot → Sums
+added s dot =
+    record {
+      red = rolled (s .red) (red (dot .colour));
+      green = rolled (s .green) (green (dot .colour));
+      blue = rolled (s .blue) (blue (dot .colour));
+    }
+
+-- every dot's three bytes, once each
+unfoldable pub summed : Sums → List Dot → Sums
+summed s [] = s
+summed s (dot ∷ rest) = summed (added s dot) rest
