@@ -11,6 +11,19 @@ pub fn first(test: bool, number: u32, later: u32) -> u32
     if test { number } else { later }
 }
 
+// The same for counts, and for levels.
+pub fn choose(test: bool, count: u64, other: u64) -> u64
+    ensures chosen { λ r. ⌜ r ≡ cond test count other ⌝ }
+{
+    if test { count } else { other }
+}
+
+pub fn level(test: bool, high: bool, other: bool) -> bool
+    ensures chosen { λ r. ⌜ r ≡ cond test high other ⌝ }
+{
+    if test { high } else { other }
+}
+
 // a - b, and 0 where b is more.
 pub fn less(a: u32, b: u32) -> u32
     ensures difference { λ r. ⌜ r ≡ a - b ⌝ }

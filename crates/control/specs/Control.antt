@@ -21,8 +21,8 @@ abbrev pub plain : ℕ → Bool
 plain control = bit 4 control
 
 -- bit 10 forces blanking
-abbrev pub blanked : ℕ → Bool
-blanked control = bit 10 control
+abbrev pub forcedBlank : ℕ → Bool
+forcedBlank control = bit 10 control
 
 -- bit 14 switches transfers off
 abbrev pub transferring : ℕ → Bool
@@ -32,7 +32,7 @@ transferring control = not (bit 14 control)
 abbrev pub cursorOn : ℕ → Bool
 cursorOn control = not (bit 23 control)
 
--- refusal 4: a 1 in bit 1, 3, 11 or 15 to 19, or a depth beyond 8 bits, which has bit 22 set
+-- refusal 4: a 1 in bit 1, 3, 11 or 15 to 19, or a depth code past 8 bits, which has bit 22 set (a word past bit 23 has got 1 already)
 abbrev pub outside : ℕ → Bool
 outside control =
     not (eqb (field 1 1 control) 0) ||

@@ -1,6 +1,6 @@
 // Control A (01, "Register map"): which words are in the build, and what their bits mean. Any number may be asked about.
 ghost use mathlib.Core.Path.{_≡_};
-ghost use Rattle.control.specs.Control.{running, plain, blanked, transferring, cursorOn, outside, depth, shiftPeriod, increment};
+ghost use Rattle.control.specs.Control.{running, plain, forcedBlank, transferring, cursorOn, outside, depth, shiftPeriod, increment};
 
 // In screen units, by depth: 1, 2, 4 and 8 bits.
 const SHIFT_PERIODS: [u32; 4] = [16, 8, 4, 2];
@@ -23,8 +23,8 @@ pub fn is_plain(control: u32) -> bool
 }
 
 // Bit 10: blanking is forced.
-pub fn is_blanked(control: u32) -> bool
-    ensures bit { λ r. ⌜ r ≡ blanked control ⌝ }
+pub fn is_forced_blank(control: u32) -> bool
+    ensures bit { λ r. ⌜ r ≡ forcedBlank control ⌝ }
 {
     control / 0x400 % 2 == 1
 }

@@ -3,3 +3,4 @@ pub mod Lines
 pub mod Rows
 pub mod Tick
 pub mod Sound
+pub mod Stand

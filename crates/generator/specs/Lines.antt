@@ -3,7 +3,7 @@
 use Prim.Native.Nat.{ℕ, _+_, _*_, _/_, _%_}
 use mathlib.Core.Bool.{Bool, true, false, not, cond, _&&_, _||_}
 use lib.Dec.{ltb, leb, eqb}
-use Rattle.screen.specs.Parameters.{halfTicks, displayFrom, flybackLines, blankLines, frameLines}
+use Rattle.screen.specs.Parameters.{halfTicks, displayFrom, halvesToVBlank, halvesToVDisplay, halvesInFrame}
 use Rattle.screen.specs.declared.Screen.{Screen}
 use Rattle.generator.specs.declared.Period.{Period}
 use Rattle.generator.specs.declared.Period.the-variants.{PreEqualise, VSync, PostEqualise, VBlank, VDisplay}
@@ -13,8 +13,8 @@ unfoldable pub period : Screen → ℕ → Period
 period s half =
     cond (ltb half (s .vpreequalise .0)) PreEqualise
     (cond (ltb half (s .vpreequalise .0 + s .vsync .0)) VSync
-    (cond (ltb half (flybackLines s)) PostEqualise
-    (cond (ltb half (blankLines s)) VBlank
+    (cond (ltb half (halvesToVBlank s)) PostEqualise
+    (cond (ltb half (halvesToVDisplay s)) VBlank
     VDisplay)))
 
 abbrev pub isVSync : Period → Bool
@@ -31,10 +31,11 @@ isVDisplay PostEqualise = false
 isVDisplay VBlank = false
 isVDisplay VDisplay = true
 
--- full lines are two half lines each, counted from VBlank's first
+-- full lines are two half lines each, counted from VBlank's first: added, since the parity of a sum is that of the difference
 abbrev pub lineFrom : Screen → ℕ
-lineFrom s = flybackLines s
+lineFrom s = halvesToVBlank s
 
+-- the half line is the second half of its line (asked in VBlank and VDisplay only)
 unfoldable pub secondHalf : Screen → ℕ → Bool
 secondHalf s half = eqb ((half + lineFrom s) % 2) 1
 
@@ -50,28 +51,28 @@ inDisplay s tick = leb (displayFrom s) tick && ltb tick (displayFrom s + s .disp
 unfoldable pub visible : Screen → ℕ → ℕ → Bool
 visible s half at = isVDisplay (period s half) && inDisplay s (inLine s half at)
 
--- sync is low, by the period: tesselated or plain
-unfoldable pub syncLow : Screen → Bool → ℕ → ℕ → Bool
-syncLow s plain half at = low (period s half)
-  where
-    low : Period → Bool
-    low PreEqualise = not plain && ltb at (s .halfsync .0)
-    low VSync = plain || ltb at (s .broadpulse .0)
-    low PostEqualise = not plain && ltb at (s .halfsync .0)
-    low VBlank = ltb (inLine s half at) (2 * s .halfsync .0)
-    low VDisplay = ltb (inLine s half at) (2 * s .halfsync .0)
+-- sync is low, by the period; at: the tick's number in a cycle of half a line, tick: in the full line
+abbrev pub lowIn : Screen → Bool → Period → ℕ → ℕ → Bool
+lowIn s plain PreEqualise at tick = not plain && ltb at (s .halfsync .0)
+lowIn s plain VSync at tick = plain || ltb at (s .broadpulse .0)
+lowIn s plain PostEqualise at tick = not plain && ltb at (s .halfsync .0)
+lowIn s plain VBlank at tick = ltb tick (2 * s .halfsync .0)
+lowIn s plain VDisplay at tick = ltb tick (2 * s .halfsync .0)
+
+abbrev pub syncLow : Screen → Bool → ℕ → ℕ → Bool
+syncLow s plain half at = lowIn s plain (period s half) at (inLine s half at)
 
 -- the first tick of VDisplay
 unfoldable pub opens : Screen → ℕ → ℕ → Bool
-opens s half at = eqb half (blankLines s) && eqb at 0
+opens s half at = eqb half (halvesToVDisplay s) && eqb at 0
 
 -- the frame's last tick
 unfoldable pub closes : Screen → ℕ → ℕ → Bool
-closes s half at = leb (frameLines s) (half + 1) && leb (halfTicks s) (at + 1)
+closes s half at = leb (halvesInFrame s) (half + 1) && leb (halfTicks s) (at + 1)
 
 -- one tick on: the next of the half line, the first of the next half line, or the frame's first
 unfoldable pub nextHalf : Screen → ℕ → ℕ → ℕ
-nextHalf s half at = cond (ltb (at + 1) (halfTicks s)) half (cond (ltb (half + 1) (frameLines s)) (half + 1) 0)
+nextHalf s half at = cond (ltb (at + 1) (halfTicks s)) half (cond (ltb (half + 1) (halvesInFrame s)) (half + 1) 0)
 
 unfoldable pub nextAt : Screen → ℕ → ℕ
 nextAt s at = cond (ltb (at + 1) (halfTicks s)) (at + 1) 0

@@ -5,7 +5,7 @@ use mathlib.Core.Bool.{Bool, cond, _&&_}
 use lib.Dec.{ltb, leb, eqb}
 use Rattle.base.specs.Sum.{rolled}
 use Rattle.control.specs.Control.{transferring, increment}
-use Rattle.screen.specs.Parameters.{screenOf, halfTicks, displayFrom, blankLines, rowLength}
+use Rattle.screen.specs.Parameters.{screenOf, halfTicks, displayFrom, halvesToVDisplay, rowLength}
 use Rattle.screen.specs.Totals.{frameVisible}
 use Rattle.screen.specs.declared.Screen.{Screen}
 use Rattle.registers.specs.declared.Registers.{Registers}
@@ -18,7 +18,7 @@ screen r = screenOf (r .params)
 unfoldable pub visibleAt : Registers → Generator → Bool
 visibleAt r g = visible (screen r) (g .half .0) (g .at .0)
 
--- the top that a frame starts at
+-- the top that a frame starts at: one for every frame
 abbrev pub topUsed : Registers → ℕ
 topUsed r = r .top
 
@@ -42,23 +42,23 @@ rowNumber r address = address / increment (r .control)
 unfoldable pub place : Registers → ℕ → ℕ → ℕ → ℕ
 place r address v k = (rowNumber r address * rowLength (screen r) + v % rowLength (screen r)) * 4 + k
 
--- the request at visible tick v: v mod R is at least MemInit
-unfoldable pub asks : Registers → ℕ → Bool
-asks r v = transferring (r .control) && leb (screen r .meminit .0) (v % rowLength (screen r))
+-- the request at visible tick v, which is kept between lines: transfers are on, and v mod R is at least MemInit
+unfoldable pub asks : ℕ → Screen → ℕ → Bool
+asks control s v = transferring control && leb (s .meminit .0) (v % rowLength s)
 
 -- the number of the frame's first visible tick
 abbrev pub firstVisible : Screen → ℕ
-firstVisible s = tickNumber s (blankLines s) (displayFrom s)
+firstVisible s = tickNumber s (halvesToVDisplay s) (displayFrom s)
 
 -- one of the TransferDelay ticks just before it
 unfoldable pub leads : Screen → ℕ → ℕ → Bool
 leads s half at =
     ltb (tickNumber s half at) (firstVisible s) && leb (firstVisible s) (tickNumber s half at + s .transferdelay .0)
 
--- between lines the request keeps its value at the visible tick before; after the frame's last visible tick it is low
+-- with transfers off now the request is low; between lines it keeps its value at the visible tick before; after the frame's last visible tick it is low
 unfoldable pub requestAt : Registers → Generator → Bool
 requestAt r g =
     transferring (r .control)
-    && cond (visibleAt r g) (asks r (g .seen .0))
+    && cond (visibleAt r g) (asks (r .control) (screen r) (g .seen .0))
     (cond (eqb (g .seen .0) 0) (leads (screen r) (g .half .0) (g .at .0))
     (ltb (g .seen .0) (frameVisible (screen r)) && g .asked))

@@ -5,8 +5,8 @@ use mathlib.Core.Bool.{Bool, true, false}
 use mathlib.Core.Path.{_≡_}
 use Rattle.base.specs.Count.{count}
 use Rattle.control.specs.Control.{running, outside}
-use Rattle.screen.specs.Parameters.{halfTicks, frameLines}
-use Rattle.screen.specs.Limits.{Accepted}
+use Rattle.screen.specs.Parameters.{halfTicks, halvesInFrame}
+use Rattle.screen.specs.Limits.{Bounded, Accepted}
 use Rattle.screen.specs.declared.Screen.{Screen}
 use Rattle.registers.specs.declared.Registers.{Registers}
 use Rattle.generator.specs.Lines.{visible, tickNumber}
@@ -19,9 +19,15 @@ shownBefore s n = count (λ k. visible s (k / halfTicks s) (k % halfTicks s)) n
 
 -- the generator stands inside the frame, and has counted the visible ticks before its place
 pub record Placed (s : Screen) (g : Generator) : Type 0 where
-  pub half-in : g .half .0 < frameLines s
+  pub half-in : g .half .0 < halvesInFrame s
   pub at-in : g .at .0 < halfTicks s
   pub seen-is : g .seen .0 ≡ shownBefore s (tickNumber s (g .half .0) (g .at .0))
+
+-- what the code asks of a screen and of a position in it
+pub record Inside (s : Screen) (half at : ℕ) : Type 0 where
+  pub bounded : Bounded 0xFFFFFF s
+  pub half-in : half < halvesInFrame s
+  pub at-in : at < halfTicks s
 
 -- registers within their widths and control within the build; running, the limits hold and the generator is placed
 pub record Sound (r : Registers) (g : Generator) : Type 0 where

@@ -5,7 +5,7 @@ use mathlib.Core.Bool.{Bool, true, false, not, cond, _&&_}
 use mathlib.Core.List.{List, [], _∷_}
 use lib.Dec.{eqb}
 use Rattle.base.specs.Count.{some, run}
-use Rattle.control.specs.Control.{running, plain, blanked, transferring, pixelBits}
+use Rattle.control.specs.Control.{running, plain, forcedBlank, transferring, pixelBits}
 use Rattle.registers.specs.declared.Registers.{Registers}
 use Rattle.pixel.specs.Memory.{endsBeyond}
 use Rattle.pixel.specs.Dot.{dotAt, black}
@@ -20,9 +20,9 @@ use Rattle.generator.specs.declared.Ticked.{Ticked}
 
 -- a tick is blank unless visible and not forced blank
 unfoldable pub shows : Registers → Generator → Bool
-shows r g = visibleAt r g && not (blanked (r .control))
+shows r g = visibleAt r g && not (forcedBlank (r .control))
 
--- the cursor position that the colours use
+-- the cursor position that the colours use: the written one
 abbrev pub positionUsed : Registers → ℕ
 positionUsed r = r .position
 
@@ -61,11 +61,11 @@ step r m g =
       at = record { 0 = nextAt (screen r) (g .at .0) };
       seen = record { 0 = cond (closes (screen r) (g .half .0) (g .at .0)) 0 (seenAfter r g) };
       held = heldAddress r g;
-      asked = cond (visibleAt r g) (asks r (g .seen .0)) (g .asked);
+      asked = cond (visibleAt r g) (asks (r .control) (screen r) (g .seen .0)) (g .asked);
       sums = sumsAfter r m g;
     }
 
--- FrameInactive is high in all but VDisplay; vertical sync is low exactly in VSync; an address is answered only at a transfer
+-- true is high. FrameInactive is high in all but VDisplay; vertical sync is low exactly in VSync; an address is answered only at a transfer
 unfoldable pub signals : Registers → List ℕ → Generator → Signals
 signals r m g =
     record {
@@ -104,7 +104,7 @@ tickOf r m g =
     (record { refusal = 0; signals = signals r m g; next = step r m g })
     (record { refusal = tickRefusal r m g; signals = silent; next = g })
 
--- the generator after n ticks with no register touched
+-- the generator after n calls with no register touched
 unfoldable pub after : Registers → List ℕ → Generator → ℕ → Generator
 after r m g zero = g
 after r m g (suc n) = tickOf r m (after r m g n) .next

@@ -1,4 +1,7 @@
 // The video timing generator (01, "Lines and frames", "Rows and pixels"): one tick by value, and the same lent.
+mod lines;
+mod rows;
+
 use pixel::Dot;
 use pixel::Sums;
 use screen::HalfLines;

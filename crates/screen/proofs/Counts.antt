@@ -4,9 +4,9 @@ use mathlib.Core.Path.{_≡_}
 use native.Mathlib.Nat.{min-eq-left, mul-le-mul}
 use native.Mathlib.Omega.{arith}
 use Rattle.base.specs.Sum.{capped}
-use Rattle.screen.specs.Parameters.{halfTicks, frameLines, rowLength}
+use Rattle.screen.specs.Parameters.{halfTicks, halvesInFrame, rowLength}
 use Rattle.screen.specs.Limits.{Bounded}
-use Rattle.screen.specs.Totals.{frameTicks, frameVisible, framePixels, roundedUp, counted}
+use Rattle.screen.specs.Totals.{frameTicks, frameVisible, framePixels, roundedUp, frameTotals}
 use Rattle.screen.specs.declared.ScreenUnits.{ScreenUnits}
 use Rattle.screen.specs.declared.Pixels.{Pixels}
 use Rattle.screen.specs.declared.Screen.{Screen}
@@ -15,7 +15,7 @@ use Rattle.screen.specs.declared.Totals.{Totals}
 module _ (s : Screen) (b : Bounded 0xFFFFFF s) where
   pub ticks-fit : frameTicks s < 2 ^ 50
   ticks-fit =
-      let most = mul-le-mul {n₁ = halfTicks s} {m₁ = frameLines s} {n₂ = 0x7FFFFF} {m₂ = 5 * 0xFFFFFF} (omega arith) (omega arith) in
+      let most = mul-le-mul {n₁ = halfTicks s} {m₁ = halvesInFrame s} {n₂ = 0x7FFFFF} {m₂ = 5 * 0xFFFFFF} (omega arith) (omega arith) in
       omega arith
 
   pub visible-fit : frameVisible s < 2 ^ 47
@@ -34,5 +34,5 @@ module _ (s : Screen) (b : Bounded 0xFFFFFF s) where
 
   -- the totals, from what the three conversions answer
   pub totals-exact : (ticks : ScreenUnits) (visible : ℕ) (pixels : Pixels) → ticks ≡ record { 0 = capped (frameTicks s) } → visible ≡ capped (frameVisible s) → pixels ≡ record { 0 = capped (4 * visible) } →
-      _≡_ {A = Totals} (record { refusal = 0; ticks = ticks; visible = record { 0 = visible }; transfers = roundedUp visible (rowLength s); pixels = pixels }) (counted s)
+      _≡_ {A = Totals} (record { refusal = 0; ticks = ticks; visible = record { 0 = visible }; transfers = roundedUp visible (rowLength s); pixels = pixels }) (frameTotals s)
   totals-exact ticks visible pixels t v p = cc (ticks-exact, visible-exact, pixels-exact)

@@ -6,8 +6,8 @@ use native.Mathlib.Omega.{arith}
 use lib.Dec.{ltb, eqb}
 use borrow.Author.Tests.{ltb-true, ltb-false, eqb-true, eqb-false, not-false, lt-ltb, le-ltb, eq-eqb, ne-eqb}
 use Rattle.screen.specs.Parameters.{displayFrom, halfTicks}
-use Rattle.screen.specs.Limits.{most, off, refuses10, refuses11, refuses12, refuses13, refuses14, refuses15, refuses16, refuses17, laterLimit, limitOf, Within, Bounded, Accepted}
-use Rattle.screen.specs.Totals.{counted, refused, totalsOf}
+use Rattle.screen.specs.Limits.{most, outOfRange, refuses10, refuses11, refuses12, refuses13, refuses14, refuses15, refuses16, refuses17, laterLimit, limitOf, Within, Bounded, Accepted}
+use Rattle.screen.specs.Totals.{frameTotals, refused, totalsOf}
 use Rattle.screen.specs.declared.Screen.{Screen}
 
 -- neither of two tests holds
@@ -19,30 +19,30 @@ neither : (a b : Bool) → a ≡ false → b ≡ false → (a || b) ≡ false
 neither false b p q = q
 neither true b p q = absurd (true≢false p)
 
-within : (n : ℕ) → off n ≡ false → Within most n
+within : (n : ℕ) → outOfRange n ≡ false → Within most n
 within n e =
     let p = both (eqb n 0) (ltb most n) e in
     let zero = eqb-false n 0 (p .0) in
     record { low = omega arith; high = ltb-false most n (p .1) }
 
-on : (n : ℕ) → Within most n → off n ≡ false
+on : (n : ℕ) → Within most n → outOfRange n ≡ false
 on n w = neither (eqb n 0) (ltb most n) (ne-eqb n 0 (λ z. omega arith)) (le-ltb most n (w .high))
 
 -- where 10 does not hold, every parameter but LineStart is from 1 up to the largest, and the other way round
 pub bounded : (s : Screen) → refuses10 s ≡ false → Bounded most s
 bounded s e =
-    let p12 = both _ (off (s .transferdelay .0)) e in
-    let p11 = both _ (off (s .meminit .0)) (p12 .0) in
-    let p10 = both _ (off (s .linetime .0)) (p11 .0) in
-    let p9 = both _ (off (s .vdisplay .0)) (p10 .0) in
-    let p8 = both _ (off (s .vblank .0)) (p9 .0) in
-    let p7 = both _ (off (s .vpostequalise .0)) (p8 .0) in
-    let p6 = both _ (off (s .vpreequalise .0)) (p7 .0) in
-    let p5 = both _ (off (s .vsync .0)) (p6 .0) in
-    let p4 = both _ (off (s .broadpulse .0)) (p5 .0) in
-    let p3 = both _ (off (s .shortdisplay .0)) (p4 .0) in
-    let p2 = both _ (off (s .display .0)) (p3 .0) in
-    let p1 = both _ (off (s .backporch .0)) (p2 .0) in
+    let p12 = both _ (outOfRange (s .transferdelay .0)) e in
+    let p11 = both _ (outOfRange (s .meminit .0)) (p12 .0) in
+    let p10 = both _ (outOfRange (s .linetime .0)) (p11 .0) in
+    let p9 = both _ (outOfRange (s .vdisplay .0)) (p10 .0) in
+    let p8 = both _ (outOfRange (s .vblank .0)) (p9 .0) in
+    let p7 = both _ (outOfRange (s .vpostequalise .0)) (p8 .0) in
+    let p6 = both _ (outOfRange (s .vpreequalise .0)) (p7 .0) in
+    let p5 = both _ (outOfRange (s .vsync .0)) (p6 .0) in
+    let p4 = both _ (outOfRange (s .broadpulse .0)) (p5 .0) in
+    let p3 = both _ (outOfRange (s .shortdisplay .0)) (p4 .0) in
+    let p2 = both _ (outOfRange (s .display .0)) (p3 .0) in
+    let p1 = both _ (outOfRange (s .backporch .0)) (p2 .0) in
     record {
       halfsync = within _ (p1 .0);
       backporch = within _ (p1 .1);
@@ -140,6 +140,6 @@ pub totals-refused : (control : ℕ) (s : Screen) (n : ℕ) → n ≡ limitOf co
 unfolding totalsOf
 totals-refused control s n e bad = simp (ne-eqb (limitOf control s) 0 (λ z. bad (e ∙ z))) (ap refused e)
 
-pub totals-counted : (control : ℕ) (s : Screen) → limitOf control s ≡ 0 → counted s ≡ totalsOf control s
+pub totals-counted : (control : ℕ) (s : Screen) → limitOf control s ≡ 0 → frameTotals s ≡ totalsOf control s
 unfolding totalsOf
 totals-counted control s e = simp (eq-eqb (limitOf control s) 0 e)

@@ -12,25 +12,25 @@ abbrev pub most : ℕ
 most = 4095
 
 -- 0, or over the largest
-abbrev pub off : ℕ → Bool
-off n = eqb n 0 || ltb most n
+abbrev pub outOfRange : ℕ → Bool
+outOfRange n = eqb n 0 || ltb most n
 
--- 10: a parameter other than LineStart is off
+-- 10: one other than LineStart is
 abbrev pub refuses10 : Screen → Bool
 refuses10 s =
-    off (s .halfsync .0) ||
-    off (s .backporch .0) ||
-    off (s .display .0) ||
-    off (s .shortdisplay .0) ||
-    off (s .broadpulse .0) ||
-    off (s .vsync .0) ||
-    off (s .vpreequalise .0) ||
-    off (s .vpostequalise .0) ||
-    off (s .vblank .0) ||
-    off (s .vdisplay .0) ||
-    off (s .linetime .0) ||
-    off (s .meminit .0) ||
-    off (s .transferdelay .0)
+    outOfRange (s .halfsync .0) ||
+    outOfRange (s .backporch .0) ||
+    outOfRange (s .display .0) ||
+    outOfRange (s .shortdisplay .0) ||
+    outOfRange (s .broadpulse .0) ||
+    outOfRange (s .vsync .0) ||
+    outOfRange (s .vpreequalise .0) ||
+    outOfRange (s .vpostequalise .0) ||
+    outOfRange (s .vblank .0) ||
+    outOfRange (s .vdisplay .0) ||
+    outOfRange (s .linetime .0) ||
+    outOfRange (s .meminit .0) ||
+    outOfRange (s .transferdelay .0)
 
 -- 11: LineTime is odd
 abbrev pub refuses11 : Screen → Bool
@@ -77,25 +77,25 @@ unfoldable pub limitOf : ℕ → Screen → ℕ
 limitOf control s = cond (refuses10 s) 10 (laterLimit control s)
 
 -- a count from 1 up to a largest
-pub record Within (top n : ℕ) : Type 0 where
+pub record Within (largest n : ℕ) : Type 0 where
   pub low : 0 < n
-  pub high : n ≤ top
+  pub high : n ≤ largest
 
 -- every parameter but LineStart is such a count
-pub record Bounded (top : ℕ) (s : Screen) : Type 0 where
-  pub halfsync : Within top (s .halfsync .0)
-  pub backporch : Within top (s .backporch .0)
-  pub display : Within top (s .display .0)
-  pub shortdisplay : Within top (s .shortdisplay .0)
-  pub broadpulse : Within top (s .broadpulse .0)
-  pub vsync : Within top (s .vsync .0)
-  pub vpreequalise : Within top (s .vpreequalise .0)
-  pub vpostequalise : Within top (s .vpostequalise .0)
-  pub vblank : Within top (s .vblank .0)
-  pub vdisplay : Within top (s .vdisplay .0)
-  pub linetime : Within top (s .linetime .0)
-  pub meminit : Within top (s .meminit .0)
-  pub transferdelay : Within top (s .transferdelay .0)
+pub record Bounded (largest : ℕ) (s : Screen) : Type 0 where
+  pub halfsync : Within largest (s .halfsync .0)
+  pub backporch : Within largest (s .backporch .0)
+  pub display : Within largest (s .display .0)
+  pub shortdisplay : Within largest (s .shortdisplay .0)
+  pub broadpulse : Within largest (s .broadpulse .0)
+  pub vsync : Within largest (s .vsync .0)
+  pub vpreequalise : Within largest (s .vpreequalise .0)
+  pub vpostequalise : Within largest (s .vpostequalise .0)
+  pub vblank : Within largest (s .vblank .0)
+  pub vdisplay : Within largest (s .vdisplay .0)
+  pub linetime : Within largest (s .linetime .0)
+  pub meminit : Within largest (s .meminit .0)
+  pub transferdelay : Within largest (s .transferdelay .0)
 
 -- what a screen keeps that may start: none of 10 to 17 holds
 pub record Accepted (control : ℕ) (s : Screen) : Type 0 where

@@ -34,15 +34,15 @@ halfTicks s = s .linetime .0 / 2
 abbrev pub displayFrom : Screen → ℕ
 displayFrom s = 2 * s .halfsync .0 + s .backporch .0
 
--- half lines before VBlank, before VDisplay, and in a whole frame, in frame order
-abbrev pub flybackLines : Screen → ℕ
-flybackLines s = s .vpreequalise .0 + s .vsync .0 + s .vpostequalise .0
+-- half lines before VBlank, before VDisplay, and in the whole frame: the periods in frame order, not in register order
+abbrev pub halvesToVBlank : Screen → ℕ
+halvesToVBlank s = s .vpreequalise .0 + s .vsync .0 + s .vpostequalise .0
 
-abbrev pub blankLines : Screen → ℕ
-blankLines s = flybackLines s + s .vblank .0
+abbrev pub halvesToVDisplay : Screen → ℕ
+halvesToVDisplay s = halvesToVBlank s + s .vblank .0
 
-abbrev pub frameLines : Screen → ℕ
-frameLines s = blankLines s + s .vdisplay .0
+abbrev pub halvesInFrame : Screen → ℕ
+halvesInFrame s = halvesToVDisplay s + s .vdisplay .0
 
 -- R, the row length
 abbrev pub rowLength : Screen → ℕ

@@ -2,7 +2,7 @@
 use Prim.Native.Nat.{ℕ, _+_, _-_, _*_, _/_}
 use mathlib.Core.Bool.{cond}
 use lib.Dec.{eqb}
-use Rattle.screen.specs.Parameters.{halfTicks, frameLines, rowLength}
+use Rattle.screen.specs.Parameters.{halfTicks, halvesInFrame, rowLength}
 use Rattle.screen.specs.Limits.{limitOf}
 use Rattle.screen.specs.declared.ScreenUnits.{ScreenUnits}
 use Rattle.screen.specs.declared.Pixels.{Pixels}
@@ -11,7 +11,7 @@ use Rattle.screen.specs.declared.Totals.{Totals}
 
 -- half the line time times the sum of the five half-line counts
 abbrev pub frameTicks : Screen → ℕ
-frameTicks s = halfTicks s * frameLines s
+frameTicks s = halfTicks s * halvesInFrame s
 
 -- Display for each displayed line, which is two half lines
 abbrev pub frameVisible : Screen → ℕ
@@ -29,8 +29,8 @@ frameTransfers s = roundedUp (frameVisible s) (rowLength s)
 abbrev pub framePixels : Screen → ℕ
 framePixels s = 4 * frameVisible s
 
-abbrev pub counted : Screen → Totals
-counted s =
+abbrev pub frameTotals : Screen → Totals
+frameTotals s =
     record {
       refusal = 0;
       ticks = record { 0 = frameTicks s };
@@ -44,4 +44,4 @@ abbrev pub refused : ℕ → Totals
 refused n = record { refusal = n; ticks = record { 0 = 0 }; visible = record { 0 = 0 }; transfers = 0; pixels = record { 0 = 0 } }
 
 unfoldable pub totalsOf : ℕ → Screen → Totals
-totalsOf control s = cond (eqb (limitOf control s) 0) (counted s) (refused (limitOf control s))
+totalsOf control s = cond (eqb (limitOf control s) 0) (frameTotals s) (refused (limitOf control s))

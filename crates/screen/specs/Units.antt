@@ -10,6 +10,6 @@ use Rattle.screen.specs.declared.Pixels.{Pixels}
 abbrev pub pixelsOf : ScreenUnits → Pixels
 pixelsOf units = record { 0 = capped (4 * units .0) }
 
--- a half line is half the line time
+-- a half line is half the line time (of an odd one, which no screen starts with, rounded down)
 abbrev pub unitsOf : HalfLines → ScreenUnits → ScreenUnits
 unitsOf lines linetime = record { 0 = capped (linetime .0 / 2 * lines .0) }

@@ -1,7 +1,7 @@
 // A frame's totals (01, "The bench screen and its neighbours"): ticks, visible ticks, transfers and pixels.
 ghost use mathlib.Core.Path.{_≡_};
 ghost use Rattle.screen.specs.Limits.{Bounded};
-ghost use Rattle.screen.specs.Totals.{counted, refused, totalsOf};
+ghost use Rattle.screen.specs.Totals.{frameTotals, refused, totalsOf};
 use crate::HalfLines;
 use crate::Pixels;
 use crate::Screen;
@@ -11,7 +11,7 @@ use crate::Totals;
 // What the frame comes to where 24 bits hold every parameter.
 fn count(s: Screen) -> Totals
     requires { ⌜ Bounded 0xFFFFFF s ⌝ }
-    ensures totals { λ r. ⌜ r ≡ counted s ⌝ }
+    ensures totals { λ r. ⌜ r ≡ frameTotals s ⌝ }
 {
     let lines = HalfLines(
         s.vpreequalise.0 + s.vsync.0 + s.vpostequalise.0 + s.vblank.0 + s.vdisplay.0,

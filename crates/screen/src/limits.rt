@@ -1,13 +1,13 @@
 // Refusals 10 to 17 (01, "Refusal numbers"). The first bounds every count that the later ones add up.
 ghost use mathlib.Core.Path.{_≡_};
-ghost use Rattle.screen.specs.Limits.{off, refuses10, refuses11, refuses12, refuses13, refuses14, refuses15, refuses16, refuses17, laterLimit, limitOf, Bounded};
+ghost use Rattle.screen.specs.Limits.{outOfRange, refuses10, refuses11, refuses12, refuses13, refuses14, refuses15, refuses16, refuses17, laterLimit, limitOf, Bounded};
 use crate::Screen;
 
 // The largest screen parameter.
 const MOST: u64 = 4095;
 
-fn is_off(n: u64) -> bool
-    ensures off { λ r. ⌜ r ≡ off n ⌝ }
+fn is_out_of_range(n: u64) -> bool
+    ensures range { λ r. ⌜ r ≡ outOfRange n ⌝ }
 {
     (n == 0) | (MOST < n)
 }
@@ -15,19 +15,19 @@ fn is_off(n: u64) -> bool
 fn refuses_10(s: Screen) -> bool
     ensures refusal { λ r. ⌜ r ≡ refuses10 s ⌝ }
 {
-    is_off(s.halfsync.0)
-        | is_off(s.backporch.0)
-        | is_off(s.display.0)
-        | is_off(s.shortdisplay.0)
-        | is_off(s.broadpulse.0)
-        | is_off(s.vsync.0)
-        | is_off(s.vpreequalise.0)
-        | is_off(s.vpostequalise.0)
-        | is_off(s.vblank.0)
-        | is_off(s.vdisplay.0)
-        | is_off(s.linetime.0)
-        | is_off(s.meminit.0)
-        | is_off(s.transferdelay.0)
+    is_out_of_range(s.halfsync.0)
+        | is_out_of_range(s.backporch.0)
+        | is_out_of_range(s.display.0)
+        | is_out_of_range(s.shortdisplay.0)
+        | is_out_of_range(s.broadpulse.0)
+        | is_out_of_range(s.vsync.0)
+        | is_out_of_range(s.vpreequalise.0)
+        | is_out_of_range(s.vpostequalise.0)
+        | is_out_of_range(s.vblank.0)
+        | is_out_of_range(s.vdisplay.0)
+        | is_out_of_range(s.linetime.0)
+        | is_out_of_range(s.meminit.0)
+        | is_out_of_range(s.transferdelay.0)
 }
 
 fn refuses_11(s: Screen) -> bool

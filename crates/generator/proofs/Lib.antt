@@ -1,0 +1,3 @@
+-- Laws of the generator's rules.
+pub mod Bounds
+pub mod Stands

@@ -1,0 +1,87 @@
+-- What the code finds of a tick is what the rules say of it. Assumes nothing.
+use Prim.Native.Nat.{ℕ, _+_, _*_, _/_, _%_, _^_, _≤_, _<_}
+use mathlib.Core.Bool.{Bool, not, cond, _&&_}
+use mathlib.Core.Path.{_≡_, refl, sym, _∙_}
+use native.Mathlib.Omega.{arith}
+use lib.Dec.{ltb, eqb}
+use Rattle.base.specs.Sum.{rolled}
+use Rattle.control.specs.Control.{forcedBlank, transferring, increment}
+use Rattle.control.proofs.Laws.{increment-positive}
+use Rattle.screen.specs.Parameters.{rowLength, screenOf}
+use Rattle.screen.specs.Totals.{frameVisible}
+use Rattle.screen.specs.Limits.{Bounded}
+use Rattle.screen.specs.declared.Screen.{Screen}
+use Rattle.screen.proofs.Laws.{narrow}
+use Rattle.registers.specs.declared.Registers.{Registers}
+use Rattle.generator.specs.Lines.{visible, opens}
+use Rattle.generator.specs.Rows.{screen, visibleAt, taken, transferAt, heldAddress, place, asks, leads, requestAt}
+use Rattle.generator.specs.Tick.{shows}
+use Rattle.generator.specs.Sound.{Inside}
+use Rattle.generator.specs.Stand.{Runs, Stands}
+use Rattle.generator.specs.declared.Generator.{Generator}
+use Rattle.generator.specs.declared.rows.Stand.{Stand}
+
+-- a running screen's parameters fit 24 bits, and its generator stands inside the frame
+pub runs-inside : (r : Registers) (g : Generator) → Runs r g → (s : Screen) → s ≡ screen r → Inside s (g .half .0) (g .at .0)
+runs-inside r g k s e =
+    rw e (record { bounded = narrow (screen r) (k .accepted .bounded); half-in = k .placed .half-in; at-in = k .placed .at-in })
+
+-- the row of a screen that 24 bits bound
+pub row-some : (s : Screen) → Bounded 0xFFFFFF s → 0 < rowLength s
+row-some s b = omega arith
+
+pub row-most : (s : Screen) → Bounded 0xFFFFFF s → rowLength s ≤ 2 ^ 26
+row-most s b = omega arith
+
+module _ (r : Registers) (g : Generator) (k : Runs r g) (s : Screen) (es : s ≡ screen r) (v o b : Bool) (i t h p : ℕ)
+    (ev : v ≡ visible s (g .half .0) (g .at .0))
+    (eo : o ≡ opens s (g .half .0) (g .at .0))
+    (ei : i ≡ increment (r .control))
+    (et : t ≡ cond o (r .top) (g .held))
+    (eh : h ≡ cond ((v && eqb (g .seen .0 % rowLength s) 0) && ltb 0 (g .seen .0)) (rolled t i) t)
+    (eb : b ≡ forcedBlank (r .control))
+    (ep : p ≡ (h / i * rowLength s + g .seen .0 % rowLength s) * 4 + 0)
+    (pl : p < 2 ^ 60) where
+  visible-is : v ≡ visibleAt r g
+  unfolding visibleAt
+  visible-is = ev ∙ rw es
+
+  taken-is : t ≡ taken r g
+  unfolding taken
+  taken-is = et ∙ rw (eo, es)
+
+  transfer-is : (v && eqb (g .seen .0 % rowLength s) 0) ≡ transferAt r g
+  unfolding transferAt
+  transfer-is = rw (visible-is, es)
+
+  held-is : h ≡ heldAddress r g
+  unfolding heldAddress
+  held-is = eh ∙ rw (transfer-is, taken-is, ei)
+
+  shows-is : (v && not b) ≡ shows r g
+  unfolding shows
+  shows-is = rw (visible-is, eb)
+
+  place-is : p ≡ place r (heldAddress r g) (g .seen .0) 0
+  unfolding place
+  place-is = ep ∙ rw (held-is, ei, es)
+
+  pub stands : Stands r g (record { screen = s; visible = v; opens = o; transfer = v && eqb (g .seen .0 % rowLength s) 0; held = h; shows = v && not b; place = p })
+  stands =
+      record {
+        screen-is = es;
+        inside = runs-inside r g k s es;
+        visible-is = visible-is;
+        opens-is = eo ∙ rw es;
+        transfer-is = transfer-is;
+        held-is = held-is;
+        shows-is = shows-is;
+        place-is = place-is;
+        place-in = pl;
+      }
+
+-- the request, from what its parts answer
+pub request-by : (r : Registers) (g : Generator) (t : Stand) → Stands r g t → (leading asking kept on out : Bool) → leading ≡ leads (t .screen) (g .half .0) (g .at .0) → asking ≡ asks (r .control) (t .screen) (g .seen .0) →
+    kept ≡ cond (eqb (g .seen .0) 0) leading (ltb (g .seen .0) (frameVisible (t .screen)) && g .asked) → on ≡ transferring (r .control) → out ≡ cond (t .visible) asking kept → (on && out) ≡ requestAt r g
+unfolding requestAt
+request-by r g t st leading asking kept on out el ea ek en eo = rw (eo, en, ek, el, ea, st .visible-is, st .screen-is)

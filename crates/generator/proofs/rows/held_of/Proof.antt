@@ -1,0 +1,11 @@
+use borrow.Author.Needs.{needs}
+use Rattle.generator.proofs.rows.held_of.Statement.{statement}
+use Rattle.generator.proofs.rows.held_of.Tie as tie
+
+pub held-of-spec : {M : Type 1} → statement M
+held-of-spec =
+    tie.close
+    (tie.spec
+    (λ c κs. search needs)
+    (λ c κs. search needs)
+    (λ c. cc))

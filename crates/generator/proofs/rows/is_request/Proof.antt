@@ -1,0 +1,27 @@
+-- `generator::rows::is_request` meets its contract: each part by its own call, joined by one law.
+use native.Mathlib.Omega.{arith}
+use borrow.Author.Needs.{needs}
+use Rattle.screen.proofs.Counts.{visible-fit}
+use Rattle.generator.proofs.Stands.{request-by}
+use Rattle.generator.proofs.rows.is_request.Statement.{statement}
+use Rattle.generator.proofs.rows.is_request.Tie as tie
+
+pub is-request-spec : {M : Type 1} → statement M
+is-request-spec =
+    tie.close
+    (tie.spec
+    (λ c. let start = c .before .before .before in omega (arith, visible-fit (start .args .t .screen) (start .pre .1 .inside .bounded)))
+    (λ c κs. search needs)
+    (λ c κs. search needs)
+    (λ c κs. search needs)
+    (λ c κs. search needs)
+    (λ c κs. search needs)
+    (λ c.
+    let l = c .before .before .before .before in
+    let start = l .before .before .before .before .before in
+    request-by (start .args .r) (start .args .g) (start .args .t) (start .pre .1) _ _ _ _ _
+    (l .before .is-leading .ensures)
+    (l .is-asking .ensures)
+    (c .before .before .level .ensures)
+    (c .before .is-transferring .ensures)
+    (c .level2 .ensures)))

@@ -1,0 +1,48 @@
+-- `generator::rows::stand_of` meets its contract: each part by its own call, joined by one law.
+use mathlib.Core.Path.{_≡_}
+use native.Mathlib.Omega.{arith}
+use borrow.Author.Needs.{needs}
+use Rattle.control.proofs.Laws.{increment-positive}
+use Rattle.generator.specs.Sound.{Inside}
+use Rattle.generator.proofs.Stands.{runs-inside, row-some, row-most, stands}
+use Rattle.generator.proofs.rows.stand_of.Statement.{statement}
+use Rattle.generator.proofs.rows.stand_of.Tie as tie
+
+abbrev start : tie.After-struct-known → tie.Start
+start c = c .before .before .before
+
+inside : (c : tie.After-struct-known) → Inside (c .before .screen-of .result) (start c .args .g .half .0) (start c .args .g .at .0)
+inside c = runs-inside (start c .args .r) (start c .args .g) (start c .pre) _ (c .before .screen-of .ensures)
+
+pub stand-of-spec : {M : Type 1} → statement M
+stand-of-spec =
+    tie.close
+    (tie.spec
+    (λ c κs. search needs)
+    (λ c. omega (arith, row-most _ (inside c .bounded)))
+    (λ c κs. inside c)
+    (λ c κs. inside (c .before) .bounded)
+    (λ c. omega (arith, row-some _ (inside (c .before .before) .bounded)))
+    (λ c κs. search needs)
+    (λ c κs. search needs)
+    (λ c κs. search needs)
+    (λ c κs. search needs)
+    (λ c κs.
+    let k = c .before .before .before .before .before .before in
+    let control = start k .args .r .control in (
+      omega (arith, increment-positive control, c .before .before .before .address-increment .ensures),
+      row-some _ (inside k .bounded),
+      row-most _ (inside k .bounded),
+    ))
+    (λ c.
+    let q = c .before .before .before .before in
+    let k = q .before .before .before in
+    stands (start k .args .r) (start k .args .g) (start k .pre) (k .before .screen-of .result) (k .before .screen-of .ensures) _ _ _ _ _ _ _
+    (q .before .before .is-visible .ensures)
+    (q .before .is-opening .ensures)
+    (q .address-increment .ensures)
+    (c .before .before .before .first .ensures)
+    (c .before .before .held-of .ensures)
+    (c .before .is-forced-blank .ensures)
+    (c .place-of .ensures .0)
+    (c .place-of .ensures .1)))

@@ -1,0 +1,116 @@
+// Rows (01, "Rows and pixels"): where a tick stands in its row, the address held, and the request.
+ghost use mathlib.Core.Path.{_≡_};
+ghost use mathlib.Core.Bool.{cond, _&&_};
+ghost use Prim.Native.Nat.{_+_, _*_, _/_, _%_, _^_, _≤_, _<_};
+ghost use lib.Dec.{ltb};
+ghost use Rattle.base.specs.Sum.{rolled};
+ghost use Rattle.screen.specs.Limits.{Bounded};
+ghost use Rattle.generator.specs.Rows.{asks, leads, requestAt};
+ghost use Rattle.generator.specs.Sound.{Inside};
+ghost use Rattle.generator.specs.Stand.{Runs, Stands};
+use crate::Generator;
+use registers::Registers;
+use screen::Screen;
+
+pub struct Stand {
+    pub screen: Screen,
+    pub visible: bool,
+    pub opens: bool,
+    pub transfer: bool,
+    pub held: u32,
+    pub shows: bool,
+    pub place: u64,
+}
+
+// The address held from this tick on: `taken` is top at the first VDisplay tick, and one increment further at a later transfer.
+fn held_of(taken: u32, steps: bool, increment: u32) -> u32
+    ensures address { λ a. ⌜ a ≡ cond steps (rolled taken increment) taken ⌝ }
+{
+    let next = base::rolled_sum(taken, increment);
+    base::first(steps, next, taken)
+}
+
+// The place of a tick's first pixel.
+fn place_of(held: u32, increment: u32, row: u64, seen: u64) -> u64
+    requires { ⌜ (0 < increment) × (0 < row) × (row ≤ 2 ^ 26) ⌝ }
+    ensures place { λ p. ⌜ p ≡ (held / increment * row + seen % row) * 4 + 0 ⌝ }
+    ensures bound { λ p. ⌜ p < 2 ^ 60 ⌝ }
+{
+    let number = (held / increment) as u64;
+    (number * row + seen % row) * 4
+}
+
+pub fn stand_of(r: Registers, g: Generator) -> Stand
+    requires { ⌜ Runs r g ⌝ }
+    ensures stand { λ t. ⌜ Stands r g t ⌝ }
+{
+    let params = r.params;
+    let half = g.half.0;
+    let at = g.at.0;
+    let seen = g.seen.0;
+    let s = screen::screen_of(params);
+    let row = s.meminit.0 + s.transferdelay.0;
+    let visible = crate::lines::is_visible(s, half, at);
+    let opens = crate::lines::is_opening(s, half, at);
+    let transfer = visible & (seen % row == 0);
+    let increment = control::address_increment(r.control);
+    let taken = base::first(opens, r.top, g.held);
+    let held = held_of(taken, transfer & (0 < seen), increment);
+    let blank = control::is_forced_blank(r.control);
+    let place = place_of(held, increment, row, seen);
+    Stand {
+        screen: s,
+        visible,
+        opens,
+        transfer,
+        held,
+        shows: visible & !blank,
+        place,
+    }
+}
+
+// The request at visible tick v.
+pub fn is_asking(control: u32, s: Screen, v: u64) -> bool
+    requires { ⌜ Bounded 0xFFFFFF s ⌝ }
+    ensures test { λ b. ⌜ b ≡ asks control s v ⌝ }
+{
+    let on = control::is_transferring(control);
+    on & (s.meminit.0 <= v % (s.meminit.0 + s.transferdelay.0))
+}
+
+// A tick's number in the frame, from its half line and its number there.
+fn number_of(half: u64, line: u64, at: u64) -> u64
+    requires { ⌜ (half ≤ 5 * 0xFFFFFF) × (line ≤ 0x7FFFFF) × (at ≤ 2 ^ 26) ⌝ }
+    ensures number { λ n. ⌜ n ≡ half * line + at ⌝ }
+    ensures bound { λ n. ⌜ n < 2 ^ 60 ⌝ }
+{
+    half * line + at
+}
+
+// One of the TransferDelay ticks just before the frame's first visible one.
+fn is_leading(s: Screen, half: u64, at: u64) -> bool
+    requires { ⌜ Inside s half at ⌝ }
+    ensures test { λ b. ⌜ b ≡ leads s half at ⌝ }
+{
+    let line = s.linetime.0 / 2;
+    let blank = s.vpreequalise.0 + s.vsync.0 + s.vpostequalise.0 + s.vblank.0;
+    let from = 2 * s.halfsync.0 + s.backporch.0;
+    let number = number_of(half, line, at);
+    let first = number_of(blank, line, from);
+    (number < first) & (first <= number + s.transferdelay.0)
+}
+
+pub fn is_request(r: Registers, g: Generator, t: Stand) -> bool
+    requires { ⌜ Runs r g ⌝ }
+    requires { ⌜ Stands r g t ⌝ }
+    ensures test { λ b. ⌜ b ≡ requestAt r g ⌝ }
+{
+    let s = t.screen;
+    let seen = g.seen.0;
+    let all = s.display.0 * (s.vdisplay.0 / 2);
+    let leading = is_leading(s, g.half.0, g.at.0);
+    let asking = is_asking(r.control, s, seen);
+    let kept = base::level(seen == 0, leading, (seen < all) & g.asked);
+    let on = control::is_transferring(r.control);
+    on & base::level(t.visible, asking, kept)
+}
