@@ -1,3 +1,5 @@
 -- Laws of the generator's rules.
 pub mod Bounds
 pub mod Stands
+pub mod Shown
+pub mod Puts

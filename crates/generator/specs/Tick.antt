@@ -53,21 +53,25 @@ sumsAfter r m g = cond (shows r g) (summed (cleared r g) (dots r m g)) (cleared 
 unfoldable pub seenAfter : Registers → Generator → ℕ
 seenAfter r g = cond (visibleAt r g) (g .seen .0 + 1) (g .seen .0)
 
--- the generator after a tick that is not refused
-unfoldable pub step : Registers → List ℕ → Generator → Generator
-step r m g =
+-- the generator after a tick that is not refused, with the sums it leaves
+unfoldable pub stepWith : Registers → Generator → Sums → Generator
+stepWith r g sums =
     record {
       half = record { 0 = nextHalf (screen r) (g .half .0) (g .at .0) };
       at = record { 0 = nextAt (screen r) (g .at .0) };
       seen = record { 0 = cond (closes (screen r) (g .half .0) (g .at .0)) 0 (seenAfter r g) };
       held = heldAddress r g;
       asked = cond (visibleAt r g) (asks (r .control) (screen r) (g .seen .0)) (g .asked);
-      sums = sumsAfter r m g;
+      sums = sums;
     }
 
--- true is high. FrameInactive is high in all but VDisplay; vertical sync is low exactly in VSync; an address is answered only at a transfer
-unfoldable pub signals : Registers → List ℕ → Generator → Signals
-signals r m g =
+abbrev pub step : Registers → List ℕ → Generator → Generator
+step r m g = stepWith r g (sumsAfter r m g)
+
+-- what it puts out, with its four pixels; true is high. FrameInactive is high in all but VDisplay; vertical sync is low exactly in VSync;
+-- an address is answered only at a transfer
+unfoldable pub signalsWith : Registers → Generator → List Dot → Signals
+signalsWith r g four =
     record {
       sync = not (syncLow (screen r) (plain (r .control)) (g .half .0) (g .at .0));
       vsync = not (isVSync (period (screen r) (g .half .0)));
@@ -76,8 +80,11 @@ signals r m g =
       request = requestAt r g;
       transfer = transferring (r .control) && transferAt r g;
       address = cond (transferring (r .control) && transferAt r g) (heldAddress r g) 0;
-      dots = dots r m g;
+      dots = four;
     }
+
+abbrev pub signals : Registers → List ℕ → Generator → Signals
+signals r m g = signalsWith r g (dots r m g)
 
 -- a refused tick answers 0 for all else
 abbrev pub silent : Signals

@@ -1,9 +1,15 @@
 // The video timing generator (01, "Lines and frames", "Rows and pixels"): one tick by value, and the same lent.
 mod lines;
+mod output;
 mod rows;
 
+ghost use mathlib.Core.Path.{_≡_};
+ghost use Rattle.generator.specs.Tick.{tickOf, fresh};
+ghost use Rattle.generator.specs.Sound.{Sound};
+ghost use Rattle.generator.specs.Stand.{Runs};
 use pixel::Dot;
 use pixel::Sums;
+use registers::Registers;
 use screen::HalfLines;
 use screen::ScreenUnits;
 
@@ -44,4 +50,61 @@ pub struct Ticked {
     pub refusal: u32,
     pub signals: Signals,
     pub next: Generator,
+}
+
+impl Generator {
+    // Before the first tick of PreEqualise, checksums at zero.
+    pub fn fresh() -> Generator
+        ensures generator { λ g. ⌜ g ≡ fresh ⌝ }
+    {
+        Generator {
+            half: HalfLines(0),
+            at: ScreenUnits(0),
+            seen: ScreenUnits(0),
+            held: 0,
+            asked: false,
+            sums: Sums::none(),
+        }
+    }
+}
+
+// A tick of a running generator.
+fn running_tick(r: Registers, g: Generator, memory: &[u8]) -> Ticked
+    requires { ⌜ Runs r g ⌝ }
+    ensures ticked { λ n. ⌜ n ≡ tickOf r (now (memory .entry)) g ⌝ }
+{
+    let t = rows::stand_of(r, g);
+    let refused = output::is_refused(r, g, t, memory);
+    if refused {
+        return Ticked {
+            refusal: 20,
+            signals: output::silence(),
+            next: g,
+        };
+    }
+    let dots = output::dots_of(r, g, t, memory);
+    let sums = output::sums_of(r, g, t, memory, dots);
+    let next = output::next_of(r, g, t, sums);
+    let signals = output::signals_of(r, g, t, dots);
+    Ticked {
+        refusal: 0,
+        signals,
+        next,
+    }
+}
+
+// One tick by value: its refusal or 0, what it puts out, and the generator after it.
+pub fn tick(r: Registers, g: Generator, memory: &[u8]) -> Ticked
+    requires { ⌜ Sound r g ⌝ }
+    ensures ticked { λ n. ⌜ n ≡ tickOf r (now (memory .entry)) g ⌝ }
+{
+    let runs = control::is_running(r.control);
+    if runs {
+        return running_tick(r, g, memory);
+    }
+    Ticked {
+        refusal: 23,
+        signals: output::silence(),
+        next: g,
+    }
 }

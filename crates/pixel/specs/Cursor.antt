@@ -1,5 +1,5 @@
 -- The cursor (01, "Rows and pixels"): 64 by 64 pixels from a signed position. Assumes nothing.
-use Prim.Native.Nat.{ℕ, zero, suc, _+_, _*_, _/_, _%_, _^_}
+use Prim.Native.Nat.{ℕ, zero, suc, _+_, _*_, _/_, _%_, _^_, min}
 use mathlib.Core.Bool.{Bool, cond, _&&_}
 use mathlib.Core.List.{List}
 use lib.Dec.{ltb}
@@ -36,3 +36,8 @@ cursorCode store position x y = codeWithin store (cursorRow position y) (cursorC
 abbrev pub over : List ℕ → ℕ → ℕ → ℕ
 over colours zero below = below
 over colours (suc k) below = getD colours k 0
+
+-- a column or a row within the 64; outside it is put at 64
+abbrev pub within : ℤ → ℕ
+within (pos n) = min n 64
+within (negsuc n) = 64

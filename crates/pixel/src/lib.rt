@@ -1,4 +1,20 @@
 // One pixel (01, "Rows and pixels"): from picture memory through mask, palette and cursor to the colour put out, and its checksums.
+mod colour;
+mod cursor;
+mod memory;
+
+pub use colour::blue_byte;
+pub use colour::green_byte;
+pub use colour::masked_colour;
+pub use colour::masked_palette;
+pub use colour::red_byte;
+pub use cursor::cover;
+pub use cursor::cursor_code;
+pub use memory::ends_beyond;
+pub use memory::pixel_shown;
+ghost use mathlib.Core.Path.{_≡_};
+ghost use Rattle.pixel.specs.Dot.{dotAt};
+ghost use Rattle.pixel.specs.Sums.{none, added};
 
 // A pixel that goes out: its colour, red in bits 23 to 16, green, blue.
 pub struct Dot {
@@ -10,4 +26,53 @@ pub struct Sums {
     pub red: u32,
     pub green: u32,
     pub blue: u32,
+}
+
+// Pixel x of line y, which stands at a place of the picture memory, under a cursor at a position.
+pub fn dot_at(
+    r: registers::Registers,
+    position: u32,
+    memory: &[u8],
+    place: u64,
+    x: u32,
+    y: u32,
+) -> Dot
+    ensures dot { λ d. ⌜ d ≡ dotAt r position (now (memory .entry)) place x y ⌝ }
+{
+    let palette = r.palette;
+    let store = r.store;
+    let colours = r.colours;
+    let pixel = pixel_shown(r.control, memory, place);
+    let below = masked_colour(&palette, r.mask, pixel);
+    let on = control::is_cursor_on(r.control);
+    let code = base::first(on, cursor_code(&store, position, x, y), 0);
+    Dot {
+        colour: cover(&colours, code, below),
+    }
+}
+
+impl Sums {
+    pub fn none() -> Sums
+        ensures sums { λ r. ⌜ r ≡ none ⌝ }
+    {
+        Sums {
+            red: 0,
+            green: 0,
+            blue: 0,
+        }
+    }
+
+    // Each byte of a dot added to its sum.
+    pub fn added(self, dot: Dot) -> Sums
+        ensures sums { λ r. ⌜ r ≡ added self dot ⌝ }
+    {
+        let red = base::wide(red_byte(dot.colour));
+        let green = base::wide(green_byte(dot.colour));
+        let blue = base::wide(blue_byte(dot.colour));
+        Sums {
+            red: base::rolled_sum(self.red, red),
+            green: base::rolled_sum(self.green, green),
+            blue: base::rolled_sum(self.blue, blue),
+        }
+    }
 }

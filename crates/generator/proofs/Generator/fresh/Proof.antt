@@ -1,0 +1,10 @@
+use borrow.Author.Needs.{needs}
+use Rattle.generator.proofs.Generator.fresh.Statement.{statement}
+use Rattle.generator.proofs.Generator.fresh.Tie as tie
+
+pub fresh-spec : {M : Type 1} → statement M
+fresh-spec =
+    tie.close
+    (tie.spec
+    (λ c κs. search needs)
+    (λ c. cc))

@@ -1,0 +1,135 @@
+-- What the code puts out is what the rules say. Assumes nothing.
+use Prim.Native.Nat.{ℕ, zero, suc, _+_, _*_, _/_, _%_, _^_, _≤_, _<_}
+use mathlib.Core.Bool.{Bool, true, false, not, cond, _&&_, _||_}
+use mathlib.Core.List.{List, [], _∷_}
+use mathlib.Core.Path.{_≡_, refl, sym, ap, _∙_}
+use native.Mathlib.Nat.{mod-lt}
+use native.Mathlib.Omega.{arith}
+use lib.Dec.{eqb}
+use lib.ListN.{getD}
+use Rattle.base.specs.Count.{count, some, run}
+use Rattle.control.specs.Control.{running, transferring, pixelBits}
+use Rattle.screen.specs.declared.Screen.{Screen}
+use Rattle.registers.specs.declared.Registers.{Registers}
+use Rattle.pixel.specs.Memory.{endsBeyond}
+use Rattle.pixel.specs.Dot.{dotAt, black}
+use Rattle.pixel.specs.Sums.{none, summed}
+use Rattle.pixel.specs.declared.Dot.{Dot}
+use Rattle.pixel.specs.declared.Sums.{Sums}
+use Rattle.pixel.proofs.Laws.{ends-beyond-later}
+use Rattle.generator.specs.Rows.{screen, heldAddress, place, asks}
+use Rattle.generator.specs.Tick.{shows, dotOf, dots, refuses20, cleared, sumsAfter, seenAfter, stepWith, signals, silent, tickRefusal, tickOf}
+use Rattle.generator.specs.Stand.{Runs, Stands}
+use Rattle.generator.specs.declared.Generator.{Generator}
+use Rattle.generator.specs.declared.Signals.{Signals}
+use Rattle.generator.specs.declared.Ticked.{Ticked}
+use Rattle.generator.specs.declared.rows.Stand.{Stand}
+use Rattle.screen.specs.Parameters.{halfTicks}
+use Rattle.screen.proofs.Laws.{narrow}
+use Rattle.generator.specs.Lines.{visible, closes, nextHalf, nextAt, tickNumber}
+use Rattle.generator.specs.Sound.{shownBefore}
+use Rattle.generator.proofs.Bounds.{lines-in}
+use Rattle.generator.proofs.Shown.{shown-line}
+
+or-true : (a b : Bool) → (a ≡ true → b ≡ true) → (a || b) ≡ b
+or-true true b h = sym (h refl)
+or-true false b h = refl
+
+-- where a test that passes goes on passing, one of a run of numbers passes exactly where the last does
+some-last : (test : ℕ → Bool) → ((k : ℕ) → test k ≡ true → test (suc k) ≡ true) → (n : ℕ) → some test (suc n) ≡ test n
+unfolding some
+some-last test on zero = refl
+some-last test on (suc n) = rw (some-last test on n) (or-true (test n) (test (suc n)) (on n))
+
+-- the four places of a tick are a run
+pub place-run : (r : Registers) (a v k : ℕ) → place r a v k ≡ place r a v 0 + k
+unfolding place
+place-run r a v k = omega arith
+
+module _ (r : Registers) (m : List ℕ) (g : Generator) (t : Stand) (st : Stands r g t) where
+  place-at : (k : ℕ) → place r (heldAddress r g) (g .seen .0) k ≡ t .place + k
+  place-at k = place-run r (heldAddress r g) (g .seen .0) k ∙ rw (← (st .place-is))
+
+  pub refuse-by : (far on : Bool) → far ≡ endsBeyond (pixelBits (r .control)) m (t .place + 3) → on ≡ transferring (r .control) → (t .shows && (on && far)) ≡ refuses20 r m g
+  unfolding refuses20
+  refuse-by far on ef eo =
+      rw (st .shows-is, ef, eo, ← (place-at 3))
+      (sym (rw (some-last (λ k. endsBeyond (pixelBits (r .control)) m (place r (heldAddress r g) (g .seen .0) k)) (λ k e. later k e) 3)))
+    where
+      later : (k : ℕ) → endsBeyond (pixelBits (r .control)) m (place r (heldAddress r g) (g .seen .0) k) ≡ true → endsBeyond (pixelBits (r .control)) m (place r (heldAddress r g) (g .seen .0) (suc k)) ≡ true
+      later k e = ends-beyond-later (pixelBits (r .control)) m _ _ (omega (arith, place-at k, place-at (suc k))) e
+
+  pub dot-by : (k : ℕ) (d : Dot) → d ≡ dotAt r (r .position) m (t .place + k) (4 * (g .seen .0 % t .screen .display .0) + k) (g .seen .0 / t .screen .display .0) → d ≡ dotOf r m (heldAddress r g) (g .seen .0) k
+  unfolding dotOf
+  dot-by k d e = e ∙ rw (place-at k, st .screen-is)
+
+  pub dots-lit : t .shows ≡ true → (a b c d : Dot) → a ≡ dotOf r m (heldAddress r g) (g .seen .0) 0 → b ≡ dotOf r m (heldAddress r g) (g .seen .0) 1 → c ≡ dotOf r m (heldAddress r g) (g .seen .0) 2 → d ≡ dotOf r m (heldAddress r g) (g .seen .0) 3 → a ∷ b ∷ c ∷ d ∷ [] ≡ dots r m g
+  unfolding dots run
+  dots-lit s a b c d ea eb ec ed = rw (ea, eb, ec, ed) (simp (← (st .shows-is), s))
+
+  pub dots-dark : t .shows ≡ false → black ∷ black ∷ black ∷ black ∷ [] ≡ dots r m g
+  unfolding dots run
+  dots-dark s = simp (← (st .shows-is), s)
+
+  -- four entries of a list of four are the list
+  four-of : (x : Bool) (f h : ℕ → Dot) (l : List Dot) → l ≡ cond x (run f 0 4) (run h 0 4) → (s : Sums) → summed s (getD l 0 black ∷ getD l 1 black ∷ getD l 2 black ∷ getD l 3 black ∷ []) ≡ summed s l
+  unfolding run
+  four-of true f h l e s = rw e
+  four-of false f h l e s = rw e
+
+  four-at : (four : List Dot) → four ≡ dots r m g → (s : Sums) → summed s (getD four 0 black ∷ getD four 1 black ∷ getD four 2 black ∷ getD four 3 black ∷ []) ≡ summed s four
+  unfolding dots
+  four-at four e s = four-of (shows r g) (dotOf r m (heldAddress r g) (g .seen .0)) (λ k. black) four e s
+
+  pub sums-by : (four : List Dot) → four ≡ dots r m g → (before after out : Sums) → before ≡ cond (t .opens) none (g .sums) → after ≡ summed before (getD four 0 black ∷ getD four 1 black ∷ getD four 2 black ∷ getD four 3 black ∷ []) → out ≡ cond (t .shows) after before → out ≡ sumsAfter r m g
+  unfolding sumsAfter cleared
+  sums-by four e before after out eb ea eo = eo ∙ rw (ea, four-at four e before, e, eb, st .shows-is, st .opens-is)
+
+-- the generator after the tick, from what its parts answer
+pub next-by : (r : Registers) (g : Generator) (t : Stand) → Stands r g t → (sums : Sums) (last asking asked : Bool) (more half at seen : ℕ) → more ≡ cond (t .visible) (g .seen .0 + 1) (g .seen .0) → last ≡ closes (t .screen) (g .half .0) (g .at .0) → asking ≡ asks (r .control) (t .screen) (g .seen .0) →
+    half ≡ nextHalf (t .screen) (g .half .0) (g .at .0) → at ≡ nextAt (t .screen) (g .at .0) → seen ≡ cond last 0 more → asked ≡ cond (t .visible) asking (g .asked) →
+    _≡_ {A = Generator} (record { half = record { 0 = half }; at = record { 0 = at }; seen = record { 0 = seen }; held = t .held; asked = asked; sums = sums }) (stepWith r g sums)
+unfolding stepWith seenAfter
+next-by r g t st sums last asking asked more half at seen em el ea eh et es ek = rw (eh, et, es, ek, em, el, ea, st .screen-is, st .visible-is, st .held-is)
+
+-- the columns and lines of a placed generator's next tick
+module _ (r : Registers) (g : Generator) (k : Runs r g) (s : Screen) (e : s ≡ screen r) where
+  pub column-in : g .seen .0 % s .display .0 ≤ 0xFFFFFF
+  column-in = rw e (omega (arith, mod-lt (g .seen .0) {m = screen r .display .0} (k .accepted .bounded .display .low), k .accepted .bounded .display .high))
+
+  pub line-in : g .seen .0 / s .display .0 < 2 ^ 32
+  line-in =
+      rw e (rw (k .placed .seen-is)
+      (omega (arith, shown-line (r .control) (screen r) (k .accepted) (g .half .0) (g .at .0) (k .placed .at-in), k .placed .half-in, k .accepted .bounded)))
+
+one-more : (b : Bool) (c n : ℕ) → c ≤ n → cond b (c + 1) c ≤ suc n
+one-more true c n p = omega arith
+one-more false c n p = omega arith
+
+count-most : (test : ℕ → Bool) (n : ℕ) → count test n ≤ n
+unfolding count
+count-most test zero = omega arith
+count-most test (suc n) = one-more (test n) (count test n) n (count-most test n)
+
+-- the visible ticks counted fit with room to spare
+pub seen-in : (r : Registers) (g : Generator) → Runs r g → g .seen .0 < 2 ^ 60
+unfolding shownBefore
+seen-in r g k =
+    let s = screen r in
+    let b = narrow s (k .accepted .bounded) in
+    rw (k .placed .seen-is)
+    (omega (arith, count-most (λ n. visible s (n / halfTicks s) (n % halfTicks s)) (tickNumber s (g .half .0) (g .at .0)), lines-in (g .half .0) (halfTicks s) (omega (arith, k .placed .half-in, b)) (omega (arith, b .linetime .high)), k .placed .at-in, b .linetime .high))
+
+module _ (r : Registers) (g : Generator) (m : List ℕ) where
+  pub tick-23 : (q : Signals) → q ≡ silent → running (r .control) ≡ false → record { refusal = 23; signals = q; next = g } ≡ tickOf r m g
+  unfolding tickOf tickRefusal
+  tick-23 q e n = simp (e, n)
+
+  module _ (on : running (r .control) ≡ true) where
+    pub tick-20 : (q : Signals) → q ≡ silent → refuses20 r m g ≡ true → record { refusal = 20; signals = q; next = g } ≡ tickOf r m g
+    unfolding tickOf tickRefusal
+    tick-20 q e n = simp (e, on, n)
+
+    pub tick-0 : refuses20 r m g ≡ false → (q : Signals) (n : Generator) (sums : Sums) → q ≡ signals r m g → sums ≡ sumsAfter r m g → n ≡ stepWith r g sums → record { refusal = 0; signals = q; next = n } ≡ tickOf r m g
+    unfolding tickOf tickRefusal
+    tick-0 z q n sums eq es en = simp (on, z) (rw (eq, en, es))

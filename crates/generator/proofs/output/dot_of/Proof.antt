@@ -1,0 +1,29 @@
+-- `generator::output::dot_of` meets its contract: column and line fit 32 bits, because the generator is placed.
+use Prim.Native.Nat.{_/_, _%_, _^_, _≤_, _<_}
+use native.Mathlib.Omega.{arith}
+use borrow.Author.Needs.{needs}
+use Rattle.generator.proofs.Puts.{dot-by, column-in, line-in}
+use Rattle.generator.proofs.output.dot_of.Statement.{statement}
+use Rattle.generator.proofs.output.dot_of.Tie as tie
+
+column : (c : tie.Start) → c .args .g .seen .0 % c .args .t .screen .display .0 ≤ 0xFFFFFF
+column c = column-in (c .args .r) (c .args .g) (c .pre .0) (c .args .t .screen) (c .pre .1 .0 .screen-is)
+
+line : (c : tie.Start) → c .args .g .seen .0 / c .args .t .screen .display .0 < 2 ^ 32
+line c = line-in (c .args .r) (c .args .g) (c .pre .0) (c .args .t .screen) (c .pre .1 .0 .screen-is)
+
+pub dot-of-spec : {M : Type 1} → statement M
+dot-of-spec =
+    tie.close
+    (tie.spec
+    (λ c. search needs)
+    (λ c. omega (arith, column (c .before)))
+    (λ c. omega (arith, column (c .before)))
+    (λ c. omega (arith, column (c .before)))
+    (λ c. search needs)
+    (λ c. omega (arith, line (c .before)))
+    (λ c. search needs)
+    (λ c κs. search needs)
+    (λ c.
+    let start = c .before .before .before in
+    dot-by (start .args .r) (start .args .memory .now) (start .args .g) (start .args .t) (start .pre .1 .0) (start .args .k) _ (c .dot-at .ensures)))

@@ -1,0 +1,147 @@
+// What a tick puts out (01, "Lines and frames", "Rows and pixels"), and the generator that it leaves.
+ghost use mathlib.Core.Path.{_≡_};
+ghost use mathlib.Core.Bool.{cond};
+ghost use mathlib.Core.List.{[], _∷_};
+ghost use Prim.Native.Nat.{_<_};
+ghost use Rattle.pixel.specs.Sums.{summed};
+ghost use Rattle.generator.specs.Rows.{heldAddress};
+ghost use Rattle.generator.specs.Tick.{dotOf, dots, refuses20, silent, sumsAfter, stepWith, signalsWith};
+ghost use Rattle.generator.specs.Stand.{Runs, Stands};
+use crate::Generator;
+use crate::Signals;
+use crate::rows::Stand;
+use pixel::Dot;
+use pixel::Sums;
+use registers::Registers;
+use screen::HalfLines;
+use screen::ScreenUnits;
+
+// Refusal 20: the last of the four pixels ends beyond the memory where any does.
+pub fn is_refused(r: Registers, g: Generator, t: Stand, memory: &[u8]) -> bool
+    requires { ⌜ Stands r g t ⌝ }
+    ensures refusal { λ b. ⌜ b ≡ refuses20 r (now (memory .entry)) g ⌝ }
+{
+    let far = pixel::ends_beyond(r.control, memory, t.place + 3);
+    let on = control::is_transferring(r.control);
+    t.shows & (on & far)
+}
+
+// Pixel k of a visible tick.
+fn dot_of(r: Registers, g: Generator, t: Stand, memory: &[u8], k: u64) -> Dot
+    requires { ⌜ Runs r g ⌝ }
+    requires { ⌜ Stands r g t ⌝ }
+    requires { ⌜ k < 4 ⌝ }
+    ensures dot { λ d. ⌜ d ≡ dotOf r (now (memory .entry)) (heldAddress r g) (g .seen .0) k ⌝ }
+{
+    let display = t.screen.display.0;
+    let seen = g.seen.0;
+    let x = (4 * (seen % display) + k) as u32;
+    let y = (seen / display) as u32;
+    pixel::dot_at(r, r.position, memory, t.place + k, x, y)
+}
+
+// The four pixels.
+pub fn dots_of(r: Registers, g: Generator, t: Stand, memory: &[u8]) -> [Dot; 4]
+    requires { ⌜ Runs r g ⌝ }
+    requires { ⌜ Stands r g t ⌝ }
+    ensures dots { λ d. ⌜ d ≡ dots r (now (memory .entry)) g ⌝ }
+{
+    if t.shows {
+        let a = dot_of(r, g, t, memory, 0);
+        let b = dot_of(r, g, t, memory, 1);
+        let c = dot_of(r, g, t, memory, 2);
+        let d = dot_of(r, g, t, memory, 3);
+        return [a, b, c, d];
+    }
+    let black = Dot { colour: 0 };
+    [black, black, black, black]
+}
+
+fn kept(test: bool, sums: Sums, other: Sums) -> Sums
+    ensures chosen { λ s. ⌜ s ≡ cond test sums other ⌝ }
+{
+    if test { sums } else { other }
+}
+
+fn added(sums: Sums, a: Dot, b: Dot, c: Dot, d: Dot) -> Sums
+    ensures sums { λ s. ⌜ s ≡ summed sums (a ∷ b ∷ c ∷ d ∷ []) ⌝ }
+{
+    sums.added(a).added(b).added(c).added(d)
+}
+
+// The sums: cleared at the first VDisplay tick, and each byte of an unblanked pixel added.
+pub fn sums_of(r: Registers, g: Generator, t: Stand, memory: &[u8], four: [Dot; 4]) -> Sums
+    requires { ⌜ Stands r g t ⌝ }
+    requires { ⌜ four ≡ dots r (now memory) g ⌝ }
+    ensures sums { λ s. ⌜ s ≡ sumsAfter r (now (memory .entry)) g ⌝ }
+{
+    let before = kept(t.opens, Sums::none(), g.sums);
+    let after = added(before, four[0], four[1], four[2], four[3]);
+    kept(t.shows, after, before)
+}
+
+// The generator one tick on.
+pub fn next_of(r: Registers, g: Generator, t: Stand, sums: Sums) -> Generator
+    requires { ⌜ Runs r g ⌝ }
+    requires { ⌜ Stands r g t ⌝ }
+    ensures next { λ n. ⌜ n ≡ stepWith r g sums ⌝ }
+{
+    let s = t.screen;
+    let half = g.half.0;
+    let at = g.at.0;
+    let seen = g.seen.0;
+    let more = base::choose(t.visible, seen + 1, seen);
+    let last = crate::lines::is_closing(s, half, at);
+    let asking = crate::rows::is_asking(r.control, s, seen);
+    Generator {
+        half: HalfLines(crate::lines::next_half(s, half, at)),
+        at: ScreenUnits(crate::lines::next_at(s, half, at)),
+        seen: ScreenUnits(base::choose(last, 0, more)),
+        held: t.held,
+        asked: base::level(t.visible, asking, g.asked),
+        sums,
+    }
+}
+
+// Every signal.
+pub fn signals_of(r: Registers, g: Generator, t: Stand, four: [Dot; 4]) -> Signals
+    requires { ⌜ Runs r g ⌝ }
+    requires { ⌜ Stands r g t ⌝ }
+    ensures signals { λ n. ⌜ n ≡ signalsWith r g four ⌝ }
+{
+    let s = t.screen;
+    let half = g.half.0;
+    let at = g.at.0;
+    let plain = control::is_plain(r.control);
+    let low = crate::lines::is_sync_low(s, plain, half, at);
+    let period = crate::lines::period_of(s, half);
+    let request = crate::rows::is_request(r, g, t);
+    let transfer = control::is_transferring(r.control) & t.transfer;
+    Signals {
+        sync: !low,
+        vsync: !crate::lines::is_vsync(period),
+        inactive: !crate::lines::is_vdisplay(period),
+        blank: !t.shows,
+        request,
+        transfer,
+        address: base::first(transfer, t.held, 0),
+        dots: four,
+    }
+}
+
+// What a refused tick answers.
+pub fn silence() -> Signals
+    ensures signals { λ n. ⌜ n ≡ silent ⌝ }
+{
+    let black = Dot { colour: 0 };
+    Signals {
+        sync: false,
+        vsync: false,
+        inactive: false,
+        blank: false,
+        request: false,
+        transfer: false,
+        address: 0,
+        dots: [black, black, black, black],
+    }
+}

@@ -1,0 +1,17 @@
+-- `pixel::dot_at` meets its contract: the parts of a dot, put together.
+use borrow.Author.Needs.{needs}
+use Rattle.pixel.proofs.Cases.{dot-of}
+use Rattle.pixel.proofs.dot_at.Statement.{statement}
+use Rattle.pixel.proofs.dot_at.Tie as tie
+
+pub dot-at-spec : {M : Type 1} → statement M
+dot-at-spec =
+    tie.close
+    (tie.spec
+    (λ c κs. search needs)
+    (λ c κs. search needs)
+    (λ c κs. search needs)
+    (λ c κs. search needs)
+    (λ c κs. search needs)
+    (λ c κs. search needs)
+    (λ c. search dot-of))

@@ -1,0 +1,22 @@
+-- `pixel::memory::pixel_shown` meets its contract: the pixel is the one of that number in its byte.
+use native.Mathlib.Omega.{arith}
+use Rattle.pixel.proofs.Bytes.{per-positive, number-small}
+use Rattle.pixel.proofs.Cases.{shown-on, shown-off}
+use borrow.Author.Needs.{needs}
+use Rattle.pixel.proofs.memory.pixel_shown.Statement.{statement}
+use Rattle.pixel.proofs.memory.pixel_shown.Tie as tie
+
+pub pixel-shown-spec : {M : Type 1} → statement M
+pixel-shown-spec =
+    tie.close
+    (tie.spec
+    (λ c κs. search needs)
+    (λ c κs. search needs)
+    (λ c. per-positive _ _ (c .per-byte .ensures))
+    (λ c κs. search needs)
+    (λ c. per-positive _ _ (c .before .per-byte .ensures))
+    (λ c. omega (arith, number-small _ _ (c .before .per-byte .ensures) (c .before .before .before .before .before .args .place)))
+    (λ c κs. search needs)
+    (λ c κs. (number-small _ _ (c .before .before .per-byte .ensures) _, omega arith))
+    (λ c. search shown-on)
+    (λ c. search shown-off))

@@ -1,0 +1,18 @@
+-- `registers::Registers::with_parameter` meets its contract: past the last parameter nothing is stored. Assumes nothing.
+use mathlib.Core.Path.{refl}
+use borrow.Author.Needs.{needs}
+use Rattle.registers.specs.declared.Place.the-variants.{Screen}
+use Rattle.registers.specs.File.{storeIn}
+use Rattle.registers.proofs.Cases.{stored-past}
+use Rattle.registers.proofs.Registers.with_parameter.Statement.{statement}
+use Rattle.registers.proofs.Registers.with_parameter.Tie as tie
+
+pub with-parameter-spec : {M : Type 1} → statement M
+unfolding storeIn
+with-parameter-spec =
+    tie.close
+    (tie.spec
+    (λ c. search needs)
+    (λ c. search needs)
+    (λ c. refl)
+    (λ c. stored-past _ (Screen _) _ (search needs) (c .if1 .left)))

@@ -1,0 +1,12 @@
+-- `registers::widest` meets its contract: the choice of `base`, by the row. Assumes nothing.
+use borrow.Author.Needs.{needs}
+use Rattle.registers.proofs.map.widest.Statement.{statement}
+use Rattle.registers.proofs.map.widest.Tie as tie
+
+pub widest-spec : {M : Type 1} → statement M
+widest-spec =
+    tie.close
+    (tie.spec
+    (λ c κs. search needs)
+    (λ c κs. search needs)
+    (λ c. cc))

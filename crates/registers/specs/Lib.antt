@@ -1,0 +1,3 @@
+-- The register map, and the register file by value.
+pub mod Map
+pub mod File

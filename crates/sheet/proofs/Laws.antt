@@ -1,0 +1,131 @@
+-- What the rules of the sheet come to, for callers: the tags' own rule, which sheets are accepted, and both round trips. Assumes nothing.
+use Prim.Native.Nat.{ℕ, zero, suc, _+_, _-_, _*_, _/_, _%_, _≤_, _<_}
+use mathlib.Core.Path.{_≡_, refl, _∙_}
+use mathlib.Core.Bool.{Bool, true, false, not, cond, _||_, true≢false}
+use mathlib.Core.List.{List, [], _∷_, _++_, append-nil}
+use native.Mathlib.Omega.{arith}
+use borrow.Author.Tests.{eq-eqb, le-ltb, ltb-false, eqb-true}
+use lib.Dec.{eqb, ltb, eqb→eq, eqb·suc-zero}
+use lib.ListN.{length, getD, drop, drop-of-length-le}
+use lib.Seq.{drop-cons, getD-drop}
+use Rattle.base.proofs.Table.{entry}
+use Rattle.sheet.specs.Encoding.{tags, fields, encoding, over, Bytes, Encodes}
+use Rattle.sheet.specs.Reader.{pair, fieldRefusal, refusalFrom, valuesFrom, readSheet, fieldOf}
+use Rattle.sheet.specs.Writer.{writeRefusal, written}
+use Rattle.sheet.specs.declared.Sheet.{Sheet}
+use Rattle.sheet.specs.declared.Answer.{Answer}
+
+-- the tag of field k is #21 + k
+pub tag-rule : (k : ℕ) → k < 14 → getD tags k 0 ≡ 0x21 + k
+tag-rule k h = eqb→eq _ _ (entry (λ place tag. eqb tag (0x21 + place)) tags tt k h)
+
+-- the tag of field k asks for value k
+pub field-by-tag : (sheet : List ℕ) (k : ℕ) → k < 14 → _≡_ {A = Answer} (fieldOf sheet (getD tags k 0)) (record { refusal = readSheet sheet .refusal; value = getD (readSheet sheet .values) k 0 })
+field-by-tag sheet k h =
+    let place : 0x21 + k - 0x21 ≡ k = omega arith in
+    rw (tag-rule k h) (simp (le-ltb (0x21 + k) 0x21 (omega arith), le-ltb 0x2E (0x21 + k) (omega arith), place))
+
+-- ---- the writer's tests
+neither : (a b : Bool) → (a || b) ≡ false → (a ≡ false) × (b ≡ false)
+neither false b e = (refl, e)
+neither true b e = absurd (true≢false e)
+
+-- no value is over 65,535
+pub within : (values : List ℕ) → over values ≡ false → (k : ℕ) → getD values k 0 ≤ 65535
+unfolding over
+within [] e k = omega arith
+within (value ∷ values) e zero = omega (arith, ltb-false 65535 value (neither (ltb 65535 value) (over values) e .0))
+within (value ∷ values) e (suc k) = within values (neither (ltb 65535 value) (over values) e .1) k
+
+chosen : (a b : Bool) → _≡_ {A = ℕ} (cond a 34 (cond b 35 0)) 0 → (a ≡ false) × (b ≡ false)
+chosen false false e = (refl, refl)
+chosen false true e = absurd (omega (arith, e))
+chosen true b e = absurd (omega (arith, e))
+
+-- a write is accepted only where no value is over and the room is large enough
+pub taken : (values room : List ℕ) → writeRefusal values room ≡ 0 → (over values ≡ false) × (70 ≤ length room)
+taken values room e = let both = chosen (over values) (ltb (length room) 70) e in (both .0, ltb-false _ _ (both .1))
+
+length-fields : (due values : List ℕ) → length values ≡ length due → length (fields due values) ≡ 5 * length due
+unfolding fields
+length-fields [] values e = refl
+length-fields (tag ∷ due) [] e = absurd (omega arith)
+length-fields (tag ∷ due) (value ∷ values) e = omega (arith, length-fields due values (omega arith))
+
+-- a sheet has 70 bytes
+pub length-encoding : (values : List ℕ) → length values ≡ 14 → length (encoding values) ≡ 70
+length-encoding values e = length-fields tags values e
+
+-- ---- an encoding is accepted
+read-fields : (due values : List ℕ) → length values ≡ length due → (refusalFrom due (fields due values) ≡ 0) × (valuesFrom due (fields due values) ≡ values)
+unfolding fields refusalFrom valuesFrom
+read-fields [] [] e = (refl, refl)
+read-fields [] (value ∷ values) e = absurd (omega arith)
+read-fields (tag ∷ due) [] e = absurd (omega arith)
+read-fields (tag ∷ due) (value ∷ values) e =
+    let rest = read-fields due values (omega arith) in
+    let size = length (fields (tag ∷ due) (value ∷ values)) in
+    let whole : 256 * (value / 256) + value % 256 ≡ value = omega arith in
+    (simp (le-ltb size 3 (omega arith), eq-eqb tag tag refl, le-ltb size 5 (omega arith)) (rest .0), rw (whole, rest .1))
+
+-- a sheet that encodes fourteen values is accepted, and gives them
+pub encoding-accepted : (values sheet : List ℕ) → Encodes values sheet → _≡_ {A = Sheet} (readSheet sheet) (record { refusal = 0; values = values })
+encoding-accepted values sheet e =
+    let read = read-fields tags values (e .fourteen) in
+    rw (← e .bytes, read .0, read .1)
+
+-- ---- only an encoding is accepted
+passed : (refusal rest : ℕ) → cond (eqb refusal 0) rest refusal ≡ 0 → (refusal ≡ 0) × (rest ≡ 0)
+passed zero rest e = (refl, e)
+passed (suc refusal) rest e = absurd (omega (arith, rw eqb·suc-zero at e))
+
+clear : (short tag two late : Bool) → _≡_ {A = ℕ} (cond short 30 (cond (not tag) 31 (cond (not two) 32 (cond late 30 0)))) 0 → (tag ≡ true) × (two ≡ true) × (late ≡ false)
+clear false true true false e = (refl, refl, refl)
+clear true tag two late e = absurd (omega (arith, e))
+clear false false two late e = absurd (omega (arith, e))
+clear false true false late e = absurd (omega (arith, e))
+clear false true true true e = absurd (omega (arith, e))
+
+split : (left : List ℕ) → 5 ≤ length left → left ≡ getD left 0 0 ∷ getD left 1 0 ∷ getD left 2 0 ∷ getD left 3 0 ∷ getD left 4 0 ∷ drop 5 left
+split left h = rw (← drop-cons left 4 0 (omega arith), ← drop-cons left 3 0 (omega arith), ← drop-cons left 2 0 (omega arith), ← drop-cons left 1 0 (omega arith), ← drop-cons left 0 0 (omega arith))
+
+only-fields : (due left : List ℕ) → Bytes left → refusalFrom due left ≡ 0 → (length (valuesFrom due left) ≡ length due) × (over (valuesFrom due left) ≡ false) × (fields due (valuesFrom due left) ≡ left)
+unfolding fields refusalFrom valuesFrom over
+only-fields [] [] small e = (refl, refl, refl)
+only-fields [] (byte ∷ left) small e = absurd (omega (arith, rw eqb·suc-zero at e))
+only-fields (tag ∷ due) left small e =
+    let both = passed (fieldRefusal tag left) (refusalFrom due (drop 5 left)) e in
+    let tests = clear (ltb (length left) 3) (eqb (getD left 0 0) tag) (eqb (pair left 1) 2) (ltb (length left) 5) (both .0) in
+    let rest = only-fields due (drop 5 left) (λ k. rw getD-drop (small (5 + k))) (both .1) in
+    let high = small 3 in
+    let low = small 4 in
+    let same : getD left 0 0 ≡ tag = eqb-true _ _ (tests .0) in
+    let two : pair left 1 ≡ 2 = eqb-true _ _ (tests .1) in
+    let zero₁ : getD left 1 0 ≡ 0 = omega arith in
+    let two₂ : getD left 2 0 ≡ 2 = omega arith in
+    let high₃ : pair left 3 / 256 ≡ getD left 3 0 = omega arith in
+    let low₄ : pair left 3 % 256 ≡ getD left 4 0 = omega arith in
+    let whole = split left (ltb-false (length left) 5 (tests .2)) in
+    (omega (arith, rest .0), rw (le-ltb 65535 (pair left 3) (omega arith)) (rest .1), cc (rest .2))
+
+-- an accepted sheet encodes the values that it gives
+pub accepted-encoding : (sheet : List ℕ) → Bytes sheet → readSheet sheet .refusal ≡ 0 → Encodes (readSheet sheet .values) sheet
+accepted-encoding sheet small e =
+    let only = only-fields tags sheet small e in
+    rw (eq-eqb (refusalFrom tags sheet) 0 e) (record { fourteen = only .0; small = only .1; bytes = only .2 })
+
+-- ---- the two round trips
+accepted-written : (values room : List ℕ) → over values ≡ false → 70 ≤ length room → written values room ≡ encoding values ++ drop 70 room
+accepted-written values room small size = simp (small, le-ltb (length room) 70 size)
+
+-- the values written into a room of 70 bytes are read back
+pub read-written : (values room : List ℕ) → length values ≡ 14 → over values ≡ false → length room ≡ 70 → _≡_ {A = Sheet} (readSheet (written values room)) (record { refusal = 0; values = values })
+read-written values room fourteen small size =
+    rw (accepted-written values room small (omega arith), drop-of-length-le room {i = 70} (omega arith), append-nil)
+    (encoding-accepted values (encoding values) (record { fourteen = fourteen; small = small; bytes = refl }))
+
+-- the values of a good sheet, written into any room that takes them, are the sheet's bytes again
+pub written-read : (sheet room : List ℕ) → Bytes sheet → readSheet sheet .refusal ≡ 0 → 70 ≤ length room → written (readSheet sheet .values) room ≡ sheet ++ drop 70 room
+written-read sheet room small e size =
+    let whole = accepted-encoding sheet small e in
+    accepted-written (readSheet sheet .values) room (whole .small) size ∙ rw (whole .bytes)

@@ -1,0 +1,3 @@
+-- What the proofs of `sheet` share.
+mod Cases
+pub mod Laws

@@ -1,0 +1,19 @@
+-- `sheet::field_refusal` meets its contract, test by test. Assumes nothing.
+use borrow.Author.Needs.{needs}
+use Rattle.sheet.proofs.field_refusal.Statement.{statement}
+use Rattle.sheet.proofs.field_refusal.Tie as tie
+
+pub field-refusal-spec : {M : Type 1} → statement M
+field-refusal-spec =
+    tie.close
+    (tie.spec
+    (λ c κs. search needs)
+    (λ c κs. search needs)
+    (λ c. search needs)
+    (λ c κs. search needs)
+    (λ c. search needs)
+    (λ c κs. search needs)
+    (λ c κs. search needs)
+    (λ c κs. search needs)
+    (λ c κs. search needs)
+    (λ c. cc))

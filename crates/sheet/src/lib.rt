@@ -1,0 +1,186 @@
+// The screen sheet (01): its reader, its writer, and one field by its tag. Any bytes and any values may be given.
+ghost use mathlib.Core.Path.{_≡_};
+ghost use Prim.Native.Nat.{_+_, _≤_, _<_};
+ghost use lib.ListN.{length, getD, drop};
+ghost use lib.Seq.{sets};
+ghost use Rattle.sheet.specs.Encoding.{tags, fieldBytes, over};
+ghost use Rattle.sheet.specs.Reader.{fieldRefusal, refusalFrom, valuesFrom, readSheet, fieldOf};
+ghost use Rattle.sheet.specs.Writer.{writeRefusal, written};
+
+// By field, in register order.
+const TAGS: [u8; 14] = [
+    0x21,
+    0x22,
+    0x23,
+    0x24,
+    0x25,
+    0x26,
+    0x27,
+    0x28,
+    0x29,
+    0x2A,
+    0x2B,
+    0x2C,
+    0x2D,
+    0x2E,
+];
+
+// What a sheet answers: a refusal, or 0 and the fourteen values.
+pub struct Sheet {
+    pub refusal: u32,
+    pub values: [u32; 14],
+}
+
+// What one field answers: a refusal, or 0 and the value.
+pub struct Answer {
+    pub refusal: u32,
+    pub value: u32,
+}
+
+// A byte, and 0 past the end: so the tests of a field may stand in a row.
+fn byte_at(bytes: &[u8], at: usize) -> u32
+    ensures same { λ r. ⌜ r ≡ getD (now (bytes .entry)) at 0 ⌝ }
+    ensures bound { λ r. ⌜ r < 256 ⌝ }
+{
+    if at < bytes.len() {
+        base::wide(bytes[at])
+    } else {
+        0
+    }
+}
+
+// The bytes left from `at` on, none where the sheet has ended.
+fn left_from(sheet: &[u8], at: usize) -> &[u8]
+    ensures left { λ r. ⌜ now r ≡ drop at (now (sheet .entry)) ⌝ }
+{
+    let end = sheet.len();
+    if at < end {
+        &sheet[at..]
+    } else {
+        &sheet[end..]
+    }
+}
+
+// The refusal of the field that begins the bytes left.
+fn field_refusal(tag: u32, left: &[u8]) -> u32
+    ensures refusal { λ r. ⌜ r ≡ fieldRefusal tag (now (left .entry)) ⌝ }
+{
+    let found = byte_at(left, 0);
+    let length = 256 * byte_at(left, 1) + byte_at(left, 2);
+    let past_length = base::first(left.len() < 5, 30, 0);
+    let past_tag = base::first(length != 2, 32, past_length);
+    let begun = base::first(found != tag, 31, past_tag);
+    base::first(left.len() < 3, 30, begun)
+}
+
+// The refusal of a whole sheet: the first one that a field gives, or 33.
+fn sheet_refusal(sheet: &[u8]) -> u32
+    ensures refusal { λ r. ⌜ r ≡ refusalFrom tags (now (sheet .entry)) ⌝ }
+{
+    let mut refusal: u32 = 0;
+    let mut i: usize = 0;
+    while i < 14 {
+        let field = field_refusal(base::wide(TAGS[i]), left_from(sheet, 5 * i));
+        refusal = base::first(refusal == 0, field, refusal);
+        i += 1;
+    }
+    let over = left_from(sheet, 70).len();
+    let end = base::first(over == 0, 0, 33);
+    base::first(refusal == 0, end, refusal)
+}
+
+// The value of every field, good or not.
+fn sheet_values(sheet: &[u8]) -> [u32; 14]
+    ensures values { λ r. ⌜ r ≡ valuesFrom tags (now (sheet .entry)) ⌝ }
+{
+    let mut values = [0u32; 14];
+    let mut i: usize = 0;
+    while i < 14 {
+        let left = left_from(sheet, 5 * i);
+        values[i] = 256 * byte_at(left, 3) + byte_at(left, 4);
+        i += 1;
+    }
+    values
+}
+
+// The fourteen values of a sheet.
+pub fn read(sheet: &[u8]) -> Sheet
+    ensures whole { λ r. ⌜ r ≡ readSheet (now (sheet .entry)) ⌝ }
+{
+    let refusal = sheet_refusal(sheet);
+    if refusal == 0 {
+        let values = sheet_values(sheet);
+        Sheet { refusal, values }
+    } else {
+        let values = [0u32; 14];
+        Sheet { refusal, values }
+    }
+}
+
+// One field of a whole good sheet, by its tag.
+pub fn field(sheet: &[u8], tag: u32) -> Answer
+    ensures answer { λ r. ⌜ r ≡ fieldOf (now (sheet .entry)) tag ⌝ }
+{
+    if tag < 0x21 {
+        return Answer {
+            refusal: 31,
+            value: 0,
+        };
+    }
+    if 0x2E < tag {
+        return Answer {
+            refusal: 31,
+            value: 0,
+        };
+    }
+    let whole = read(sheet);
+    let values = whole.values;
+    let i = (tag - 0x21) as usize;
+    Answer {
+        refusal: whole.refusal,
+        value: values[i],
+    }
+}
+
+// Whether some value is over 65,535.
+fn is_over(values: [u32; 14]) -> bool
+    ensures over { λ r. ⌜ r ≡ over values ⌝ }
+{
+    let mut over = false;
+    let mut i: usize = 0;
+    while i < 14 {
+        over = over | (65535 < values[i]);
+        i += 1;
+    }
+    over
+}
+
+// One field stored from `at` on.
+fn put_field(room: &mut [u8], at: usize, tag: u8, value: u32)
+    requires fits { ⌜ (at + 5 ≤ length (now room)) × (value < 65536) ⌝ }
+    ensures bytes { λ _. ⌜ now (room .exit) ≡ sets (now (room .entry)) at (fieldBytes tag value) ⌝ }
+{
+    room[at] = tag;
+    room[at + 1] = 0;
+    room[at + 2] = 2;
+    room[at + 3] = (value / 256) as u8;
+    room[at + 4] = (value % 256) as u8;
+}
+
+// The sheet of fourteen values, written at the front of `room`; what stands past its 70 bytes is left alone.
+pub fn write(values: [u32; 14], room: &mut [u8]) -> u32
+    ensures refusal { λ r. ⌜ r ≡ writeRefusal values (now (room .entry)) ⌝ }
+    ensures bytes { λ _. ⌜ now (room .exit) ≡ written values (now (room .entry)) ⌝ }
+{
+    let over = is_over(values);
+    let small = base::first(room.len() < 70, 35, 0);
+    let refusal = base::first(over, 34, small);
+    if refusal == 0 {
+        let mut i: usize = 0;
+        while i < 14 {
+            put_field(room, 5 * i, TAGS[i], values[i]);
+            i += 1;
+        }
+    }
+    refusal
+}

@@ -1,0 +1,2 @@
+-- Laws for whoever calls from C.
+pub mod Laws

@@ -1,0 +1,2 @@
+-- What the station's host is answered.
+pub mod Number

@@ -1,0 +1,3 @@
+-- The rules of the checksums to compare.
+pub mod Nine
+pub mod Compare
