@@ -1,2 +1,3 @@
 -- Laws that callers of `base` use.
 pub mod Table
+pub mod Run

@@ -1,6 +1,6 @@
 -- The one condition (01, "What nobody may get past"): what every record satisfies that the calls can give from the beginning.
 -- Assumes nothing.
-use Prim.Native.Nat.{ℕ, _/_, _%_, _<_, _≤_}
+use Prim.Native.Nat.{ℕ, _/_, _%_, _<_}
 use mathlib.Core.Bool.{Bool, true, false}
 use mathlib.Core.Path.{_≡_}
 use Rattle.base.specs.Count.{count}
@@ -8,6 +8,7 @@ use Rattle.control.specs.Control.{running, outside}
 use Rattle.screen.specs.Parameters.{halfTicks, halvesInFrame}
 use Rattle.screen.specs.Limits.{Bounded, Accepted}
 use Rattle.screen.specs.declared.Screen.{Screen}
+use Rattle.registers.specs.File.{Held}
 use Rattle.registers.specs.declared.Registers.{Registers}
 use Rattle.generator.specs.Lines.{visible, tickNumber}
 use Rattle.generator.specs.Rows.{screen}
@@ -31,7 +32,7 @@ pub record Inside (s : Screen) (half at : ℕ) : Type 0 where
 
 -- registers within their widths and control within the build; running, the limits hold and the generator is placed
 pub record Sound (r : Registers) (g : Generator) : Type 0 where
+  pub held : Held r
   pub in-build : outside (r .control) ≡ false
-  pub top-in : r .top ≤ 0xFFFFFF
   pub accepted : running (r .control) ≡ true → Accepted (r .control) (screen r)
   pub placed : running (r .control) ≡ true → Placed (screen r) g

@@ -9,7 +9,7 @@ use native.Mathlib.Omega.{arith}
 use borrow.Author.Tests.{lt-ltb, le-ltb, leb-true, leb-false}
 use lib.Dec.{leb}
 use lib.ListN.{length, getD}
-use lib.Pow.{pow-mono, shr-shr, mod-pow-add}
+use lib.Pow.{shr-shr, mod-pow-add}
 use Rattle.pixel.specs.Memory.{bitAt, bitsAt, pixelAt, endsBeyond}
 
 module _ (memory : List ℕ) (k : ℕ) where

@@ -1,6 +1,6 @@
 -- Cases of this crate's functions: a pixel shown, the cursor's code, and a table filled entry by entry. Assumes nothing.
 use Prim.Native.Nat.{ℕ, zero, suc, _+_, _-_, _*_, _/_, _%_, _^_, _≤_, _<_}
-use mathlib.Core.Path.{_≡_, refl, sym, ap, _∙_}
+use mathlib.Core.Path.{_≡_, refl, sym, _∙_}
 use mathlib.Core.Bool.{Bool, true, false, cond, and-false}
 use mathlib.Core.List.{List}
 use native.Mathlib.Nat.{pow-suc}
@@ -30,7 +30,7 @@ four-power (suc n) =
 
 module _ (store : List ℕ) where
   -- inside the cursor, and outside by a row or by a column
-  pub code-inside : (row column : ℤ) → within row < 64 → within column < 64 → codeAt store (within row) (within column) ≡ codeWithin store row column
+  code-inside : (row column : ℤ) → within row < 64 → within column < 64 → codeAt store (within row) (within column) ≡ codeWithin store row column
   code-inside (pos row) (pos column) p q =
       let r : within (pos row) ≡ row = omega arith in
       let k : within (pos column) ≡ column = omega arith in
@@ -38,12 +38,12 @@ module _ (store : List ℕ) where
   code-inside (pos row) (negsuc column) p q = absurd (omega arith)
   code-inside (negsuc row) column p q = absurd (omega arith)
 
-  pub code-row-outside : (row column : ℤ) → 64 ≤ within row → 0 ≡ codeWithin store row column
+  code-row-outside : (row column : ℤ) → 64 ≤ within row → 0 ≡ codeWithin store row column
   code-row-outside (pos row) (pos column) p = simp (le-ltb row 64 (omega arith))
   code-row-outside (pos row) (negsuc column) p = refl
   code-row-outside (negsuc row) column p = refl
 
-  pub code-column-outside : (row column : ℤ) → 64 ≤ within column → 0 ≡ codeWithin store row column
+  code-column-outside : (row column : ℤ) → 64 ≤ within column → 0 ≡ codeWithin store row column
   code-column-outside (pos row) (pos column) p = simp (le-ltb column 64 (omega arith), and-false)
   code-column-outside (pos row) (negsuc column) p = refl
   code-column-outside (negsuc row) column p = refl

@@ -9,7 +9,8 @@ use borrow.Author.Tests.{lt-ltb, ltb-true}
 use lib.Bits.{bitAnd}
 use lib.ListN.{length, getD}
 use Rattle.pixel.specs.Memory.{endsBeyond}
-use Rattle.pixel.specs.Colour.{red, green, blue, colourOf, maskedColour, run, maskedPalette}
+use Rattle.base.proofs.Run.{run-length, run-entry}
+use Rattle.pixel.specs.Colour.{red, green, blue, colourOf, maskedColour, maskedPalette}
 use Rattle.pixel.specs.Sums.{added, summed}
 use Rattle.pixel.specs.declared.Dot.{Dot}
 use Rattle.pixel.specs.declared.Sums.{Sums}
@@ -61,19 +62,6 @@ palettes-agree a b mask pixel e = (
   sym (masked-colour-blue a mask pixel) ∙ ap blue e ∙ masked-colour-blue b mask pixel,
 )
 
--- a run has as many entries as it counts, and each is the function's
-module _ (f : ℕ → ℕ) where
-  pub run-length : (from count : ℕ) → length (run f from count) ≡ count
-  unfolding run
-  run-length from zero = refl
-  run-length from (suc count) = ap suc (run-length (suc from) count)
-
-  pub run-entry : (from count k : ℕ) → k < count → getD (run f from count) k 0 ≡ f (from + k)
-  unfolding run
-  run-entry from zero k h = absurd (omega arith)
-  run-entry from (suc count) zero h = rw add-zero
-  run-entry from (suc count) (suc k) h = rw (add-suc, ← suc-add) (run-entry (suc from) count k (omega arith))
-
 -- the masked palette has an entry for each pixel, which is its colour
 pub masked-palette-length : (palette : List ℕ) (mask : ℕ) → length (maskedPalette palette mask) ≡ 256
 unfolding maskedPalette
@@ -81,7 +69,7 @@ masked-palette-length palette mask = run-length (maskedColour palette mask) 0 25
 
 pub masked-palette-entry : (palette : List ℕ) (mask pixel : ℕ) → pixel < 256 → getD (maskedPalette palette mask) pixel 0 ≡ maskedColour palette mask pixel
 unfolding maskedPalette
-masked-palette-entry palette mask pixel h = run-entry (maskedColour palette mask) 0 256 pixel h ∙ ap (maskedColour palette mask) (omega arith)
+masked-palette-entry palette mask pixel h = run-entry (maskedColour palette mask) 0 256 pixel 0 h ∙ ap (maskedColour palette mask) (omega arith)
 
 -- the sums of two lists of dots, one after the other
 pub summed-join : (s : Sums) (a b : List Dot) → summed s (a ++ b) ≡ summed (summed s a) b

@@ -1,8 +1,9 @@
 -- Colours, the mask and the palette (01, "Rows and pixels"). Assumes nothing.
-use Prim.Native.Nat.{ℕ, zero, suc, _+_, _*_, _/_, _%_}
-use mathlib.Core.List.{List, [], _∷_}
+use Prim.Native.Nat.{ℕ, _+_, _*_, _/_, _%_}
+use mathlib.Core.List.{List}
 use lib.Bits.{bitAnd}
 use lib.ListN.{getD}
+use Rattle.base.specs.Count.{run}
 
 -- red in bits 23 to 16, green, blue
 abbrev pub red : ℕ → ℕ
@@ -24,11 +25,6 @@ maskedColour palette mask pixel =
     (red (getD palette (bitAnd pixel (red mask)) 0))
     (green (getD palette (bitAnd pixel (green mask)) 0))
     (blue (getD palette (bitAnd pixel (blue mask)) 0))
-
--- what f gives at `count` numbers from `from` on, in order
-unfoldable pub run : (ℕ → ℕ) → ℕ → ℕ → List ℕ
-run f from zero = []
-run f from (suc count) = f from ∷ run f (suc from) count
 
 -- the mask applied to the whole palette: the colour of each of the 256 pixels
 unfoldable pub maskedPalette : List ℕ → ℕ → List ℕ

@@ -1,5 +1,4 @@
 -- The checksums (01, "Rows and pixels"): each unblanked colour byte is added to its 24-bit sum. Assumes nothing.
-use Prim.Native.Nat.{ℕ}
 use mathlib.Core.List.{List, [], _∷_}
 use Rattle.base.specs.Sum.{rolled}
 use Rattle.pixel.specs.Colour.{red, green, blue}

@@ -52,6 +52,7 @@ pub fn dot_at(
 }
 
 impl Sums {
+    // The sums before any dot.
     pub fn none() -> Sums
         ensures sums { λ r. ⌜ r ≡ none ⌝ }
     {

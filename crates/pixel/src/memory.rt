@@ -12,7 +12,7 @@ const PER_BYTE: [u64; 4] = [8, 4, 2, 1];
 fn per_byte(control: u32) -> u64
     ensures whole { λ r. ⌜ r * pixelBits control ≡ 8 ⌝ }
 {
-    let depth = (control / 0x100000 % 4) as usize;
+    let depth = control::depth_code(control) as usize;
     PER_BYTE[depth]
 }
 

@@ -13,7 +13,7 @@ tick-spec =
     (λ c κs.
     let start = c .before .before .before in
     let on = sym (c .before .is-running .ensures) ∙ c .if1 .taken in
-    record { runs = on; top-in = start .pre .top-in; accepted = start .pre .accepted on; placed = start .pre .placed on })
+    record { runs = on; top-in = start .pre .held .top; accepted = start .pre .accepted on; placed = start .pre .placed on })
     (λ c. search needs)
     (λ c κs. search needs)
     (λ c.

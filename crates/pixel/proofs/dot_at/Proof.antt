@@ -1,4 +1,4 @@
--- `pixel::dot_at` meets its contract: the parts of a dot, put together.
+-- `pixel::dot_at` meets its contract: the parts of a dot, put together. Assumes nothing.
 use borrow.Author.Needs.{needs}
 use Rattle.pixel.proofs.Cases.{dot-of}
 use Rattle.pixel.proofs.dot_at.Statement.{statement}

@@ -1,4 +1,4 @@
--- `pixel::Sums::added` meets its contract: each byte is made wide and added by `base`.
+-- `pixel::Sums::added` meets its contract: each byte is made wide and added by `base`. Assumes nothing.
 use borrow.Author.Needs.{needs}
 use Rattle.pixel.proofs.Sums.added.Statement.{statement}
 use Rattle.pixel.proofs.Sums.added.Tie as tie

@@ -1,4 +1,4 @@
--- `pixel::colour::masked_colour` meets its contract: an entry for each channel, and its byte.
+-- `pixel::colour::masked_colour` meets its contract: an entry for each channel, and its byte. Assumes nothing.
 use borrow.Author.Needs.{needs}
 use Rattle.pixel.specs.Colour.{maskedColour}
 use Rattle.pixel.proofs.colour.masked_colour.Statement.{statement}

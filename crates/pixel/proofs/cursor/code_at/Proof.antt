@@ -1,4 +1,4 @@
--- `pixel::cursor::code_at` meets its contract: a shift by two bits a column.
+-- `pixel::cursor::code_at` meets its contract: a shift by two bits a column. Assumes nothing.
 use Rattle.pixel.proofs.Cases.{four-power}
 use borrow.Author.Needs.{needs}
 use Rattle.pixel.proofs.cursor.code_at.Statement.{statement}

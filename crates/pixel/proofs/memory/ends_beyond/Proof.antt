@@ -1,4 +1,4 @@
--- `pixel::memory::ends_beyond` meets its contract: a pixel ends beyond the memory exactly when its byte does.
+-- `pixel::memory::ends_beyond` meets its contract: a pixel ends beyond the memory exactly when its byte does. Assumes nothing.
 use Rattle.pixel.proofs.Bytes.{per-positive, byte-beyond}
 use borrow.Author.Needs.{needs}
 use Rattle.pixel.proofs.memory.ends_beyond.Statement.{statement}

@@ -1,5 +1,6 @@
--- `pixel::memory::pixel_shown` meets its contract: the pixel is the one of that number in its byte.
+-- `pixel::memory::pixel_shown` meets its contract: the pixel is the one of that number in its byte. Assumes nothing.
 use native.Mathlib.Omega.{arith}
+use mir.Facts.{fits-lt, fits-lit}
 use Rattle.pixel.proofs.Bytes.{per-positive, number-small}
 use Rattle.pixel.proofs.Cases.{shown-on, shown-off}
 use borrow.Author.Needs.{needs}
@@ -15,7 +16,7 @@ pixel-shown-spec =
     (λ c. per-positive _ _ (c .per-byte .ensures))
     (λ c κs. search needs)
     (λ c. per-positive _ _ (c .before .per-byte .ensures))
-    (λ c. omega (arith, number-small _ _ (c .before .per-byte .ensures) (c .before .before .before .before .before .args .place)))
+    (λ c. fits-lt (number-small _ _ (c .before .per-byte .ensures) _) (fits-lit tt))
     (λ c κs. search needs)
     (λ c κs. (number-small _ _ (c .before .before .per-byte .ensures) _, omega arith))
     (λ c. search shown-on)

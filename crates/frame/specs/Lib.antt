@@ -1,0 +1,2 @@
+-- A whole frame: what its ticks give, what it comes to, and demand 3.
+pub mod Frame
