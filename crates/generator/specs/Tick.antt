@@ -100,6 +100,10 @@ silent =
       dots = black ∷ black ∷ black ∷ black ∷ [];
     }
 
+-- running, and the next tick not in flyback: it lies in VDisplay
+unfoldable pub displaying : Registers → Generator → Bool
+displaying r g = running (r .control) && isVDisplay (period (screen r) (g .half .0))
+
 -- the order for a tick: 23, 20
 unfoldable pub tickRefusal : Registers → List ℕ → Generator → ℕ
 tickRefusal r m g = cond (running (r .control)) (cond (refuses20 r m g) 20 0) 23

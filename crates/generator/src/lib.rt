@@ -4,7 +4,7 @@ mod output;
 mod rows;
 
 ghost use mathlib.Core.Path.{_≡_};
-ghost use Rattle.generator.specs.Tick.{tickOf, fresh};
+ghost use Rattle.generator.specs.Tick.{displaying, tickOf, fresh};
 ghost use Rattle.generator.specs.Sound.{Sound};
 ghost use Rattle.generator.specs.Stand.{Runs};
 use pixel::Dot;
@@ -91,6 +91,21 @@ fn running_tick(r: Registers, g: Generator, memory: &[u8]) -> Ticked
         signals,
         next,
     }
+}
+
+// The next tick of a running generator lies in VDisplay, out of flyback.
+pub fn is_displaying(r: Registers, g: Generator) -> bool
+    requires { ⌜ Sound r g ⌝ }
+    ensures test { λ b. ⌜ b ≡ displaying r g ⌝ }
+{
+    let params = r.params;
+    let runs = control::is_running(r.control);
+    if runs {
+        let s = screen::screen_of(params);
+        let period = lines::period_of(s, g.half.0);
+        return lines::is_vdisplay(period);
+    }
+    false
 }
 
 // One tick by value: its refusal or 0, what it puts out, and the generator after it.

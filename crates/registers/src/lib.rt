@@ -5,6 +5,7 @@ pub use map::is_checksum;
 pub use map::is_control;
 pub use map::is_parameter;
 pub use map::is_reserved;
+pub use map::number_of;
 pub use map::place_of;
 pub use map::widest;
 ghost use mathlib.Core.Path.{_≡_};

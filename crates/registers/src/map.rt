@@ -3,7 +3,7 @@ ghost use mathlib.Core.Path.{_≡_};
 ghost use mathlib.Core.Bool.{cond, _&&_};
 ghost use lib.Dec.{leb};
 ghost use lib.ListN.{drop};
-ghost use Rattle.registers.specs.Map.{registerMap, placeIn, placeOf, rowOf, isParameter, isControl, isChecksum, isReserved, widest};
+ghost use Rattle.registers.specs.Map.{registerMap, placeIn, placeOf, rowOf, numberOf, isParameter, isControl, isChecksum, isReserved, widest};
 use crate::Place;
 use base::less;
 
@@ -55,6 +55,24 @@ fn row_of(p: Place) -> u32
         Place::Palette(_) => 7,
         Place::Store(_) => 8,
         Place::Reserved => 9,
+    }
+}
+
+// A place's number in its row of the map.
+pub fn number_of(p: Place) -> u32
+    ensures number { λ r. ⌜ r ≡ numberOf p ⌝ }
+{
+    match p {
+        Place::Screen(k) => k,
+        Place::Mask => 0,
+        Place::Control => 0,
+        Place::Top => 0,
+        Place::Colour(k) => k,
+        Place::Checksum(k) => k,
+        Place::Position => 0,
+        Place::Palette(k) => k,
+        Place::Store(k) => k,
+        Place::Reserved => 0,
     }
 }
 

@@ -1,3 +1,4 @@
+-- `generator::Generator::fresh` meets its contract: every field at its beginning.
 use borrow.Author.Needs.{needs}
 use Rattle.generator.proofs.Generator.fresh.Statement.{statement}
 use Rattle.generator.proofs.Generator.fresh.Tie as tie

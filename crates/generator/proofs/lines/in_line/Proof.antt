@@ -1,3 +1,4 @@
+-- `generator::lines::in_line` meets its contract: the half line's parity picks where the line counts from.
 use Rattle.generator.specs.Lines.{secondHalf, inLine}
 use borrow.Author.Needs.{needs}
 use Rattle.generator.proofs.lines.in_line.Statement.{statement}

@@ -1,3 +1,4 @@
+-- `generator::lines::is_closing` meets its contract: the last half line's last tick.
 use Rattle.generator.specs.Lines.{closes}
 use borrow.Author.Needs.{needs}
 use Rattle.generator.proofs.lines.is_closing.Statement.{statement}

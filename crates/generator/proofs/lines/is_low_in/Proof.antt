@@ -1,3 +1,4 @@
+-- `generator::lines::is_low_in` meets its contract: sync by the period, case by case.
 use borrow.Author.Needs.{needs}
 use Rattle.generator.proofs.lines.is_low_in.Statement.{statement}
 use Rattle.generator.proofs.lines.is_low_in.Tie as tie

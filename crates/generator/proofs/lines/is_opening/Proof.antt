@@ -1,3 +1,4 @@
+-- `generator::lines::is_opening` meets its contract: VDisplay's first half line and first tick.
 use Rattle.generator.specs.Lines.{opens}
 use borrow.Author.Needs.{needs}
 use Rattle.generator.proofs.lines.is_opening.Statement.{statement}

@@ -1,3 +1,4 @@
+-- `generator::lines::is_sync_low` meets its contract: its period and its place in the line.
 use borrow.Author.Needs.{needs}
 use Rattle.generator.proofs.lines.is_sync_low.Statement.{statement}
 use Rattle.generator.proofs.lines.is_sync_low.Tie as tie

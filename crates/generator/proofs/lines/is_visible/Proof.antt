@@ -1,3 +1,4 @@
+-- `generator::lines::is_visible` meets its contract: a Display tick inside VDisplay.
 use Rattle.generator.specs.Lines.{visible}
 use borrow.Author.Needs.{needs}
 use Rattle.generator.proofs.lines.is_visible.Statement.{statement}

@@ -1,3 +1,4 @@
+-- `generator::lines::next_at` meets its contract: on, or back to the half line's start.
 use Rattle.generator.specs.Lines.{nextAt}
 use borrow.Author.Needs.{needs}
 use Rattle.generator.proofs.lines.next_at.Statement.{statement}

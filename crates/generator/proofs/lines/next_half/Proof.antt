@@ -1,3 +1,4 @@
+-- `generator::lines::next_half` meets its contract: the next half line, or the frame's first.
 use Rattle.generator.specs.Lines.{nextHalf}
 use borrow.Author.Needs.{needs}
 use Rattle.generator.proofs.lines.next_half.Statement.{statement}

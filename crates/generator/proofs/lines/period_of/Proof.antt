@@ -1,3 +1,4 @@
+-- `generator::lines::period_of` meets its contract: five tests in frame order.
 use Rattle.generator.specs.Lines.{period}
 use borrow.Author.Needs.{needs}
 use Rattle.generator.proofs.lines.period_of.Statement.{statement}

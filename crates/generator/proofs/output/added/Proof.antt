@@ -1,3 +1,4 @@
+-- `generator::output::added` meets its contract: four pixels, one after the other.
 use Rattle.pixel.specs.Sums.{summed}
 use borrow.Author.Needs.{needs}
 use Rattle.generator.proofs.output.added.Statement.{statement}

@@ -1,3 +1,4 @@
+-- `generator::output::signals_of` meets its contract: each signal by its own call.
 use Rattle.generator.specs.Tick.{signalsWith}
 use borrow.Author.Needs.{needs}
 use Rattle.generator.proofs.output.signals_of.Statement.{statement}

@@ -1,3 +1,4 @@
+-- `generator::rows::held_of` meets its contract: the sum rolls over as `base` says.
 use borrow.Author.Needs.{needs}
 use Rattle.generator.proofs.rows.held_of.Statement.{statement}
 use Rattle.generator.proofs.rows.held_of.Tie as tie

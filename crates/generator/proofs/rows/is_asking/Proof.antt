@@ -1,3 +1,4 @@
+-- `generator::rows::is_asking` meets its contract: the row length is never 0.
 use Rattle.generator.specs.Rows.{asks}
 use borrow.Author.Needs.{needs}
 use Rattle.generator.proofs.rows.is_asking.Statement.{statement}

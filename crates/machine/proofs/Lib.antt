@@ -1,0 +1,2 @@
+-- Laws of the machine's rules.
+mod Cases

@@ -1,0 +1,12 @@
+-- `machine::Machine::beginning` meets its contract: zeros, and a fresh generator.
+use borrow.Author.Needs.{needs}
+use Rattle.machine.proofs.Machine.beginning.Statement.{statement}
+use Rattle.machine.proofs.Machine.beginning.Tie as tie
+
+pub beginning-spec : {M : Type 1} → statement M
+beginning-spec =
+    tie.close
+    (tie.spec
+    (λ c κs. search needs)
+    (λ c κs. search needs)
+    (λ c. cc))

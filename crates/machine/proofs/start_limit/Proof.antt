@@ -1,0 +1,17 @@
+-- `machine::start_limit` meets its contract: the limits under the new control value.
+use Rattle.machine.specs.Rules.{startLimit}
+use borrow.Author.Needs.{needs}
+use Rattle.machine.proofs.start_limit.Statement.{statement}
+use Rattle.machine.proofs.start_limit.Tie as tie
+
+pub start-limit-spec : {M : Type 1} → statement M
+unfolding startLimit
+start-limit-spec =
+    tie.close
+    (tie.spec
+    (λ c κs. search needs)
+    (λ c κs. search needs)
+    (λ c κs. search needs)
+    (λ c κs. search needs)
+    (λ c κs. search needs)
+    (λ c. cc))

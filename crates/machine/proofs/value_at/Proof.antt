@@ -1,0 +1,17 @@
+-- `machine::value_at` meets its contract: a checksum from the sums, all else from the file.
+use Rattle.machine.specs.Rules.{valueAt}
+use borrow.Author.Needs.{needs}
+use Rattle.machine.proofs.value_at.Statement.{statement}
+use Rattle.machine.proofs.value_at.Tie as tie
+
+pub value-at-spec : {M : Type 1} → statement M
+unfolding valueAt
+value-at-spec =
+    tie.close
+    (tie.spec
+    (λ c κs. search needs)
+    (λ c κs. search needs)
+    (λ c κs. search needs)
+    (λ c κs. search needs)
+    (λ c κs. search needs)
+    (λ c. cc))

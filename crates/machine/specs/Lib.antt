@@ -1,0 +1,2 @@
+-- The machine's rules: writing, reading, ticking.
+pub mod Rules

@@ -1,0 +1,114 @@
+-- The machine's calls (01, "Starting a screen", "Refusal numbers"): what a write, a read and a tick answer, and the machine after.
+-- Assumes nothing.
+use Prim.Native.Nat.{ℕ, _/_, _%_, _^_}
+use mathlib.Core.Bool.{Bool, not, cond, _&&_, _||_}
+use mathlib.Core.List.{List}
+use lib.Dec.{ltb, eqb}
+use lib.ListN.{getD}
+use Rattle.base.specs.Count.{run}
+use Rattle.control.specs.Control.{running, outside}
+use Rattle.screen.specs.Limits.{limitOf}
+use Rattle.registers.specs.Map.{placeOf, numberOf, isParameter, isControl, isChecksum, isReserved, widest}
+use Rattle.registers.specs.File.{zeros, valueIn, storeIn}
+use Rattle.registers.specs.declared.Place.{Place}
+use Rattle.registers.specs.declared.Registers.{Registers}
+use Rattle.pixel.specs.Colour.{colourOf}
+use Rattle.pixel.specs.declared.Sums.{Sums}
+use Rattle.generator.specs.Rows.{screen}
+use Rattle.generator.specs.Tick.{displaying, tickOf, fresh}
+use Rattle.machine.specs.declared.Machine.{Machine}
+use Rattle.machine.specs.declared.Written.{Written}
+use Rattle.machine.specs.declared.Answered.{Answered}
+use Rattle.machine.specs.declared.Advanced.{Advanced}
+
+-- all registers begin at 0, and the generator stopped
+abbrev pub beginning : Machine
+beginning = record { regs = zeros; generator = fresh }
+
+-- ---- writing
+
+-- 2: a reserved address, or a checksum written
+abbrev pub writeRefuses2 : Place → Bool
+writeRefuses2 p = isReserved p || isChecksum p
+
+-- 1: a value over what the place holds
+abbrev pub writeRefuses1 : Place → ℕ → Bool
+writeRefuses1 p value = ltb (widest p) value
+
+-- 3: #021 to #02E touched while running
+abbrev pub refuses3 : Registers → Place → Bool
+refuses3 r p = isParameter p && running (r .control)
+
+-- 4: a control mode that is not in the build
+abbrev pub writeRefuses4 : Place → ℕ → Bool
+writeRefuses4 p value = isControl p && outside value
+
+-- a control write with bit 0 set is then checked, as the new value stands, for 10 to 17
+unfoldable pub startLimit : Registers → Place → ℕ → ℕ
+startLimit r p value = cond (isControl p && running value) (limitOf value (screen r)) 0
+
+-- the order for a write: 2, 1, 3, 4, then 10 to 17
+unfoldable pub writeRefusal : Registers → Place → ℕ → ℕ
+writeRefusal r p value =
+    cond (writeRefuses2 p) 2
+    (cond (writeRefuses1 p value) 1
+    (cond (refuses3 r p) 3
+    (cond (writeRefuses4 p value) 4
+    (startLimit r p value))))
+
+-- bit 0 of control A goes from 0 to 1
+abbrev pub starts : Registers → Place → ℕ → Bool
+starts r p value = isControl p && running value && not (running (r .control))
+
+-- the machine after an accepted write: a start also puts the generator before its first tick, checksums at zero
+unfoldable pub stored : Machine → Place → ℕ → Machine
+stored m p value =
+    record { regs = storeIn (m .regs) p value; generator = cond (starts (m .regs) p value) fresh (m .generator) }
+
+-- after a refused write the state handed back equals the state given
+unfoldable pub written : Machine → ℕ → ℕ → Written
+written m address value =
+    record {
+      refusal = writeRefusal (m .regs) (placeOf address) value;
+      machine = cond (eqb (writeRefusal (m .regs) (placeOf address) value) 0) (stored m (placeOf address) value) m;
+    }
+
+-- ---- reading
+
+-- 5: a checksum read while running, the next tick not in flyback
+abbrev pub refuses5 : Machine → Place → Bool
+refuses5 m p = isChecksum p && displaying (m .regs) (m .generator)
+
+-- the order for a read: 2, 3, 5
+unfoldable pub readRefusal : Machine → Place → ℕ
+readRefusal m p = cond (isReserved p) 2 (cond (refuses3 (m .regs) p) 3 (cond (refuses5 m p) 5 0))
+
+-- #0C0 holds the three low bytes, #0C1 the middle, #0C2 the high ones, red leftmost
+abbrev pub byteOf : ℕ → ℕ → ℕ
+byteOf k sum = sum / 256 ^ k % 256
+
+unfoldable pub checksumWords : Sums → List ℕ
+checksumWords sums = run (λ k. colourOf (byteOf k (sums .red)) (byteOf k (sums .green)) (byteOf k (sums .blue))) 0 3
+
+unfoldable pub valueAt : Machine → Place → ℕ
+valueAt m p = cond (isChecksum p) (getD (checksumWords (m .generator .sums)) (numberOf p) 0) (valueIn (m .regs) p)
+
+-- a refused read gives 0; no read changes the machine
+unfoldable pub answered : Machine → ℕ → Answered
+answered m address =
+    record {
+      refusal = readRefusal m (placeOf address);
+      value = cond (eqb (readRefusal m (placeOf address)) 0) (valueAt m (placeOf address)) 0;
+      machine = m;
+    }
+
+-- ---- ticking
+
+-- one tick: the generator's, the registers as they were
+unfoldable pub advanced : Machine → List ℕ → Advanced
+advanced m memory =
+    record {
+      refusal = tickOf (m .regs) memory (m .generator) .refusal;
+      signals = tickOf (m .regs) memory (m .generator) .signals;
+      machine = record { regs = m .regs; generator = tickOf (m .regs) memory (m .generator) .next };
+    }
