@@ -3,3 +3,4 @@ pub mod Bounds
 pub mod Stands
 pub mod Shown
 pub mod Puts
+pub mod Kept

@@ -1,0 +1,2 @@
+-- The statement of the starred rows.
+pub mod Starred

@@ -1,0 +1,22 @@
+-- Every starred row holds of the rules: one statement, by computation. Assumes nothing.
+use mathlib.Core.Path.{refl}
+use Rattle.base.specs.Count
+use Rattle.screen.specs.Parameters
+use Rattle.screen.specs.Limits
+use Rattle.screen.specs.Totals
+use Rattle.registers.specs.Map
+use Rattle.registers.specs.File
+use Rattle.pixel.specs.Memory
+use Rattle.pixel.specs.Colour
+use Rattle.pixel.specs.Cursor
+use Rattle.pixel.specs.Dot
+use Rattle.pixel.specs.Sums
+use Rattle.generator.specs.Lines
+use Rattle.generator.specs.Rows
+use Rattle.generator.specs.Tick
+use Rattle.machine.specs.Rules
+use Rattle.worked.specs.Bench.{writes, started, puts, those, ticks, starred, Holds}
+
+pub starred-rows : Holds starred
+unfolding writes started puts those ticks starred Count.some Count.run Parameters.screenOf Limits.laterLimit Limits.limitOf Totals.totalsOf Map.placeOf File.zeros File.valueIn File.storeIn Memory.bitsAt Memory.pixelShown Colour.maskedColour Cursor.cursorCode Dot.dotAt Sums.summed Lines.period Lines.secondHalf Lines.inLine Lines.visible Lines.opens Lines.closes Lines.nextHalf Lines.nextAt Rows.visibleAt Rows.taken Rows.transferAt Rows.heldAddress Rows.place Rows.asks Rows.leads Rows.requestAt Tick.shows Tick.dotOf Tick.dots Tick.refuses20 Tick.cleared Tick.sumsAfter Tick.seenAfter Tick.stepWith Tick.signalsWith Tick.tickRefusal Tick.tickOf Rules.startLimit Rules.writeRefusal Rules.stored Rules.written Rules.advanced
+starred-rows = (refl, (refl, (refl, (refl, (refl, (refl, (refl, (refl, (refl, (refl, (refl, (refl, (refl, (refl, (refl, tt)))))))))))))))

@@ -1,0 +1,1 @@
+// The starred rows of document 01, computed from the rules. Definitions and one statement; nothing here runs.
