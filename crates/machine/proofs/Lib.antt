@@ -1,2 +1,5 @@
--- Laws of the machine's rules.
+-- Laws and theorems of the machine's rules.
 mod Cases
+pub mod Passed
+pub mod Soundness
+pub mod Theorems

@@ -1,2 +1,3 @@
 -- The machine's rules: writing, reading, ticking.
 pub mod Rules
+pub mod Calls

@@ -1,0 +1,95 @@
+-- The one condition: true of the beginning, and kept by every call. Assumes nothing.
+use Prim.Native.Nat.{ℕ}
+use mathlib.Core.Bool.{Bool, true, false, not, cond, _&&_, true≢false}
+use mathlib.Core.List.{List}
+use mathlib.Core.Path.{_≡_, refl, sym, _∙_}
+use lib.Dec.{eqb}
+use borrow.Author.Tests.{eqb-true, not-false}
+use Rattle.control.specs.Control.{running, outside}
+use Rattle.screen.specs.Parameters.{screenOf}
+use Rattle.screen.specs.Limits.{Accepted, limitOf}
+use Rattle.screen.proofs.Laws as limits
+use Rattle.registers.specs.Map.{placeOf, isControl, isParameter}
+use Rattle.registers.specs.File.{zeros, storeIn}
+use Rattle.registers.specs.declared.Place.{Place}
+use Rattle.registers.specs.declared.Registers.{Registers}
+use Rattle.registers.proofs.Laws.{control-open, control-stored, control-kept, params-kept, zeros-held, stored-held}
+use Rattle.generator.specs.Rows.{screen}
+use Rattle.generator.specs.Tick.{fresh}
+use Rattle.generator.specs.Sound.{Sound, Placed}
+use Rattle.generator.specs.declared.Generator.{Generator}
+use Rattle.generator.proofs.Kept.{fresh-placed, tick-sound}
+use Rattle.machine.specs.Rules.{beginning, startLimit, starts, stored, writeRefusal, written, answered, advanced}
+use Rattle.machine.specs.declared.Machine.{Machine}
+use Rattle.machine.proofs.Passed.{Passed, passed}
+
+abbrev pub SoundMachine : Machine → Type 0
+SoundMachine m = Sound (m .regs) (m .generator)
+
+pub beginning-sound : SoundMachine beginning
+unfolding zeros
+beginning-sound =
+    record { held = zeros-held; in-build = refl; accepted = λ on. absurd (true≢false (sym on)); placed = λ on. absurd (true≢false (sym on)) }
+
+module _ (m : Machine) (z : SoundMachine m) (p : Place) (value : ℕ) (q : Passed (m .regs) p value) where
+  -- a control write with bit 0 set has kept the limits
+  control-accepted : isControl p ≡ true → running value ≡ true → Accepted value (screen (m .regs))
+  unfolding startLimit
+  control-accepted c on = limits.accepted value (screen (m .regs)) (simp (c, on) at (q .limits))
+
+  same-screen : isParameter p ≡ false → screen (storeIn (m .regs) p value) ≡ screen (m .regs)
+  same-screen e = rw (params-kept (m .regs) p value e)
+
+  -- a write at a parameter found the generator stopped
+  stopped : isParameter p ≡ true → running (m .regs .control) ≡ false
+  stopped e = simp e at (q .idle)
+
+  build : (c : Bool) → isControl p ≡ c → outside (storeIn (m .regs) p value .control) ≡ false
+  build true c = rw (control-stored (m .regs) p value c) (simp c at (q .known))
+  build false c = rw (control-kept (m .regs) p value c) (z .in-build)
+
+  accepted-on : (c d : Bool) → isControl p ≡ c → isParameter p ≡ d → running (storeIn (m .regs) p value .control) ≡ true → Accepted (storeIn (m .regs) p value .control) (screen (storeIn (m .regs) p value))
+  accepted-on true d c e on =
+      let k = control-stored (m .regs) p value c in
+      rw (k, same-screen (control-open p c)) (control-accepted c (rw k at on))
+  accepted-on false true c e on =
+      absurd (true≢false (sym (rw (control-kept (m .regs) p value c) at on) ∙ stopped e))
+  accepted-on false false c e on =
+      let k = control-kept (m .regs) p value c in
+      rw (k, same-screen e) (z .accepted (rw k at on))
+
+  -- a start places a fresh generator; any other write finds it where it was
+  placed-on : (c d s : Bool) → isControl p ≡ c → isParameter p ≡ d → starts (m .regs) p value ≡ s → running (storeIn (m .regs) p value .control) ≡ true → Placed (screen (storeIn (m .regs) p value)) (cond s fresh (m .generator))
+  placed-on c d true ec ed s on = fresh-placed (storeIn (m .regs) p value) (accepted-on c d ec ed on)
+  placed-on true d false c e s on =
+      let v : running value ≡ true = rw (control-stored (m .regs) p value c) at on in
+      rw (same-screen (control-open p c)) (z .placed (not-false (running (m .regs .control)) (simp (c, v) at s)))
+  placed-on false true false c e s on = absurd (true≢false (sym (rw (control-kept (m .regs) p value c) at on) ∙ stopped e))
+  placed-on false false false c e s on = rw (same-screen e) (z .placed (rw (control-kept (m .regs) p value c) at on))
+
+  stored-sound : SoundMachine (stored m p value)
+  unfolding stored
+  stored-sound =
+      record {
+        held = stored-held (m .regs) p value (z .held) (record { narrow = q .narrow });
+        in-build = build (isControl p) refl;
+        accepted = accepted-on (isControl p) (isParameter p) refl refl;
+        placed = placed-on (isControl p) (isParameter p) (starts (m .regs) p value) refl refl refl;
+      }
+
+-- every call keeps the one condition, refused or not
+pub write-sound : (m : Machine) (address value : ℕ) → SoundMachine m → SoundMachine (written m address value .machine)
+unfolding written
+write-sound m address value z = go (eqb (writeRefusal (m .regs) (placeOf address) value) 0) refl
+  where
+    go : (b : Bool) → eqb (writeRefusal (m .regs) (placeOf address) value) 0 ≡ b → SoundMachine (cond b (stored m (placeOf address) value) m)
+    go true e = stored-sound m z (placeOf address) value (passed (m .regs) (placeOf address) value (eqb-true _ 0 e))
+    go false e = z
+
+pub read-sound : (m : Machine) (address : ℕ) → SoundMachine m → SoundMachine (answered m address .machine)
+unfolding answered
+read-sound m address z = z
+
+pub advance-sound : (m : Machine) (memory : List ℕ) → SoundMachine m → SoundMachine (advanced m memory .machine)
+unfolding advanced
+advance-sound m memory z = tick-sound (m .regs) memory (m .generator) z
