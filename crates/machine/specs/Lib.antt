@@ -1,3 +1,4 @@
 -- The machine's rules: writing, reading, ticking.
 pub mod Rules
 pub mod Calls
+pub mod Alike

@@ -1,0 +1,168 @@
+-- LineStart and bits 2 and 5 to 9 of control A change nothing but their own reading. Assumes nothing.
+use Prim.Native.Nat.{ℕ, _+_, _*_, _/_, _%_}
+use mathlib.Core.Bool.{Bool, true, false, not, cond}
+use mathlib.Core.List.{List}
+use mathlib.Core.Path.{_≡_, refl, ap, _∙_}
+use native.Mathlib.Omega.{arith}
+use lib.Dec.{eqb}
+use Rattle.base.specs.Count.{some, run}
+use Rattle.base.proofs.Run.{run-same}
+use Rattle.control.specs.Control.{field, bit, running, plain, forcedBlank, transferring, cursorOn, outside, depth, increment}
+use Rattle.screen.specs.Limits.{laterLimit, limitOf}
+use Rattle.screen.specs.declared.Screen.{Screen}
+use Rattle.registers.specs.declared.Registers.{Registers}
+use Rattle.pixel.specs.Memory.{pixelShown}
+use Rattle.pixel.specs.Dot.{dotAt}
+use Rattle.pixel.specs.declared.Dot.{Dot}
+use Rattle.pixel.specs.declared.Sums.{Sums}
+use Rattle.generator.specs.Lines.{lowIn, period, secondHalf, inLine, visible, opens, closes, nextHalf, nextAt}
+use Rattle.generator.specs.Rows.{screen, visibleAt, taken, transferAt, heldAddress, place, asks, leads, requestAt}
+use Rattle.generator.specs.Tick.{shows, dotOf, dots, refuses20, cleared, sumsAfter, seenAfter, stepWith, signalsWith, tickRefusal, tickOf}
+use Rattle.generator.specs.declared.Generator.{Generator}
+use Rattle.generator.specs.declared.Ticked.{Ticked}
+use Rattle.generator.specs.declared.Period.{Period}
+use Rattle.generator.specs.declared.Period.the-variants.{PreEqualise, VSync, PostEqualise, VBlank, VDisplay}
+use Rattle.machine.specs.Alike.{SameMode, withLineStart, Alike, SameColours}
+
+-- a field from bit 15 on is one of the word past bit 10
+past-ten : (n : ℕ) → n / 1024 / 32 % 32 ≡ field 15 5 n
+past-ten n = omega arith
+
+high-field : (c d : ℕ) → d / 1024 ≡ c / 1024 → field 15 5 d ≡ field 15 5 c
+high-field c d e = rw (← (past-ten d), ← (past-ten c), e)
+
+bit-1 : (c d : ℕ) → d % 4 ≡ c % 4 → field 1 1 d ≡ field 1 1 c
+bit-1 c d e = omega arith
+
+bit-11 : (c d : ℕ) → d / 1024 ≡ c / 1024 → field 11 1 d ≡ field 11 1 c
+bit-11 c d e = omega arith
+
+bit-22 : (c d : ℕ) → d / 1024 ≡ c / 1024 → field 22 1 d ≡ field 22 1 c
+bit-22 c d e = omega arith
+
+-- LineStart is no part of the sync
+low-same : (s : Screen) (n : ℕ) (plain : Bool) (p : Period) (at tick : ℕ) → lowIn (withLineStart s n) plain p at tick ≡ lowIn s plain p at tick
+low-same s n plain PreEqualise at tick = refl
+low-same s n plain VSync at tick = refl
+low-same s n plain PostEqualise at tick = refl
+low-same s n plain VBlank at tick = refl
+low-same s n plain VDisplay at tick = refl
+
+-- what such words share: every switch and field that has an effect
+module _ (c d : ℕ) (m : SameMode c d) where
+  same-bit : (n : ℕ) → field n 1 d ≡ field n 1 c → bit n d ≡ bit n c
+  same-bit n e = rw e
+
+  same-running : running d ≡ running c
+  same-running = same-bit 0 (omega (arith, m .low))
+
+  same-blank : forcedBlank d ≡ forcedBlank c
+  same-blank = same-bit 10 (omega (arith, m .high))
+
+  same-transferring : transferring d ≡ transferring c
+  same-transferring = ap not (same-bit 14 (omega (arith, m .high)))
+
+  same-cursor : cursorOn d ≡ cursorOn c
+  same-cursor = ap not (same-bit 23 (omega (arith, m .high)))
+
+  same-depth : depth d ≡ depth c
+  same-depth = omega (arith, m .high)
+
+  same-increment : increment d ≡ increment c
+  same-increment = let e : field 12 2 d ≡ field 12 2 c = omega (arith, m .high) in rw e
+
+  pub same-outside : outside d ≡ outside c
+  same-outside = rw (bit-1 c d (m .low), m .middle, bit-11 c d (m .high), high-field c d (m .high), bit-22 c d (m .high))
+
+either : (b : Bool) (x y z : Ticked) → SameColours x y → SameColours (cond b x z) (cond b y z)
+either true x y z e = e
+either false x y z e = record { refusal = refl; dots = refl; next = refl }
+
+module _ (r other : Registers) (n : ℕ) (a : Alike r other n) where
+  abbrev c : ℕ
+  c = r .control
+
+  abbrev d : ℕ
+  d = other .control
+
+  -- the same screens start
+  pub same-limit : limitOf d (screen other) ≡ limitOf c (screen r)
+  unfolding limitOf laterLimit
+  same-limit = rw (a .line-start, same-depth c d (a .mode))
+
+  module _ (g : Generator) where
+    same-visible : visibleAt other g ≡ visibleAt r g
+    unfolding visibleAt visible period inLine secondHalf
+    same-visible = rw (a .line-start)
+
+    same-taken : taken other g ≡ taken r g
+    unfolding taken opens
+    same-taken = rw (a .line-start, a .top)
+
+    same-transfer : transferAt other g ≡ transferAt r g
+    unfolding transferAt
+    same-transfer = rw (same-visible, a .line-start)
+
+    same-held : heldAddress other g ≡ heldAddress r g
+    unfolding heldAddress
+    same-held = rw (same-transfer, same-taken, same-increment c d (a .mode))
+
+    same-asks : (v : ℕ) → asks d (screen other) v ≡ asks c (screen r) v
+    unfolding asks
+    same-asks v = rw (a .line-start, same-transferring c d (a .mode))
+
+    same-request : requestAt other g ≡ requestAt r g
+    unfolding requestAt leads
+    same-request = rw (same-visible, same-asks (g .seen .0), same-transferring c d (a .mode), a .line-start)
+
+    same-shows : shows other g ≡ shows r g
+    unfolding shows
+    same-shows = rw (same-visible, same-blank c d (a .mode))
+
+  same-place : (address v k : ℕ) → place other address v k ≡ place r address v k
+  unfolding place
+  same-place address v k = rw (a .line-start, same-increment c d (a .mode))
+
+  same-dot : (m : List ℕ) (address v k : ℕ) → dotOf other m address v k ≡ dotOf r m address v k
+  unfolding dotOf dotAt pixelShown
+  same-dot m address v k =
+      rw (same-place address v k, a .line-start, a .mask, a .colours, a .position, a .palette, a .store, same-transferring c d (a .mode), same-cursor c d (a .mode), same-depth c d (a .mode))
+
+  module _ (m : List ℕ) (g : Generator) where
+    same-dots : dots other m g ≡ dots r m g
+    unfolding dots
+    same-dots =
+        rw (same-shows g, same-held g, run-same (dotOf other m (heldAddress r g) (g .seen .0)) (dotOf r m (heldAddress r g) (g .seen .0)) 0 0 4 (λ k p. same-dot m (heldAddress r g) (g .seen .0) (0 + k)))
+
+    same-refuses : refuses20 other m g ≡ refuses20 r m g
+    unfolding refuses20 some
+    same-refuses = rw (same-shows g, same-held g, same-transferring c d (a .mode), same-depth c d (a .mode)) (simp same-place)
+
+    same-sums : sumsAfter other m g ≡ sumsAfter r m g
+    unfolding sumsAfter cleared opens
+    same-sums = rw (same-shows g, same-dots, a .line-start)
+
+    same-step : (sums : Sums) → stepWith other g sums ≡ stepWith r g sums
+    unfolding stepWith seenAfter closes nextHalf nextAt
+    same-step sums = rw (same-visible g, same-held g, same-asks g (g .seen .0), a .line-start)
+
+    same-signals : plain d ≡ plain c → (four : List Dot) → signalsWith other g four ≡ signalsWith r g four
+    unfolding signalsWith period inLine secondHalf
+    same-signals p four =
+        rw (same-shows g, same-request g, same-held g, same-transfer g, p, same-transferring c d (a .mode), a .line-start, low-same)
+
+    same-number : tickRefusal other m g ≡ tickRefusal r m g
+    unfolding tickRefusal
+    same-number = rw (same-running c d (a .mode), same-refuses)
+
+    -- every answer of a tick, and the generator after it
+    pub same-tick : plain d ≡ plain c → tickOf other m g ≡ tickOf r m g
+    unfolding tickOf
+    same-tick p = rw (same-number, same-sums, same-dots, same-step (sumsAfter r m g), same-signals p (dots r m g))
+
+    -- bit 4 changes no refusal, no colour and no sum
+    pub same-but-sync : SameColours (tickOf other m g) (tickOf r m g)
+    unfolding tickOf signalsWith
+    same-but-sync =
+        rw (same-number, same-sums, same-dots, same-step (sumsAfter r m g))
+        (either (eqb (tickRefusal r m g) 0) _ _ _ (record { refusal = refl; dots = refl; next = refl }))
