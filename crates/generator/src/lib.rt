@@ -1,4 +1,4 @@
-// The video timing generator (01, "Lines and frames", "Rows and pixels"): one tick by value, and the same lent.
+// The video timing generator (01, "Lines and frames", "Rows and pixels"): one tick by value.
 mod lines;
 mod output;
 mod rows;
@@ -24,6 +24,7 @@ pub enum Period {
 
 // The next tick's half line and its number in that half line; the frame's visible ticks so far; the last address; the request at the
 // last visible tick; the checksums.
+#[repr(C)]
 pub struct Generator {
     pub half: HalfLines,
     pub at: ScreenUnits,
@@ -34,6 +35,7 @@ pub struct Generator {
 }
 
 // What a tick puts out. An address is answered exactly where `transfer` is set.
+#[repr(C)]
 pub struct Signals {
     pub sync: bool,
     pub vsync: bool,
@@ -46,6 +48,7 @@ pub struct Signals {
 }
 
 // A tick's refusal or 0, what it puts out, and the generator after it.
+#[repr(C)]
 pub struct Ticked {
     pub refusal: u32,
     pub signals: Signals,

@@ -26,6 +26,7 @@ pub enum Place {
     Store(u32),
 }
 
+#[repr(C)]
 pub struct Registers {
     pub params: [u32; 14],
     pub mask: u32,
