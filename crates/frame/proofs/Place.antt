@@ -1,0 +1,138 @@
+-- Where the generator stands before tick n of a frame, and which tick is the first of VDisplay and which the frame's last. Assumes nothing.
+use Prim.Native.Nat.{ℕ, _+_, _-_, _*_, _/_, _%_, _≤_, _<_, min}
+use mathlib.Core.Bool.{true, false}
+use mathlib.Core.Logic.{_⊎_, ⊎-elim}
+use mathlib.Core.Path.{_≡_, sym, _∙_}
+use native.Mathlib.Nat.{mul-le-mul-right, mul-pos, zero-mul}
+use native.Mathlib.Omega.{arith}
+use borrow.Author.Tests.{le-ltb, le-leb}
+use Rattle.screen.specs.Parameters.{halfTicks, displayFrom, halvesToVBlank, halvesToVDisplay, halvesInFrame, rowLength}
+use Rattle.screen.specs.Limits.{Accepted}
+use Rattle.screen.specs.Totals.{frameTicks, frameVisible}
+use Rattle.screen.specs.declared.Screen.{Screen}
+use Rattle.screen.proofs.Laws.{narrow}
+use Rattle.registers.specs.declared.Registers.{Registers}
+use Rattle.pixel.specs.declared.Sums.{Sums}
+use Rattle.generator.specs.Lines.{visible, tickNumber}
+use Rattle.generator.specs.Rows.{screen}
+use Rattle.generator.specs.Tick.{stepWith}
+use Rattle.generator.specs.Sound.{shownBefore, Placed}
+use Rattle.generator.specs.declared.Generator.{Generator}
+use Rattle.generator.proofs.Shown.{below, dark, lit, line-first, line-second, shownAt, shown-dark, shown-lit, shown-closed}
+use Rattle.generator.proofs.Stands.{row-some}
+use Rattle.generator.proofs.Kept.{next, closes-before, last-at, last-half, step-placed}
+use Rattle.frame.specs.Frame.{AtStart}
+
+-- placed, before tick n of the frame
+pub record AtTick (s : Screen) (n : ℕ) (g : Generator) : Type 0 where
+  pub placed : Placed s g
+  pub number : tickNumber s (g .half .0) (g .at .0) ≡ n
+
+-- inside the frame the next tick is the next number
+pub tick-on : (r : Registers) → Accepted (r .control) (screen r) → (n : ℕ) (g : Generator) (sums : Sums) → AtTick (screen r) n g → n + 1 < frameTicks (screen r) → AtTick (screen r) (n + 1) (stepWith r g sums)
+unfolding stepWith
+tick-on r ok n g sums a l =
+    let p = a .placed in
+    let inside = closes-before (screen r) (g .half .0) (g .at .0) (p .half-in) (p .at-in) (omega (arith, a .number)) in
+    record {
+      placed = step-placed r ok g sums p;
+      number = next (screen r) (g .half .0) (g .at .0) (p .half-in) (p .at-in) .number ∙ simp (inside, a .number);
+    }
+
+module _ (control : ℕ) (s : Screen) (ok : Accepted control s) where
+  pub ticks-some : 0 < frameTicks s
+  ticks-some = mul-pos {m = halfTicks s} (omega (arith, ok .half-holds)) (omega (arith, ok .bounded .vdisplay .low))
+
+  pub visible-some : 0 < frameVisible s
+  visible-some = mul-pos {m = s .display .0} (ok .bounded .display .low) (omega (arith, ok .bounded .vdisplay .low, ok .display-even))
+
+  pub rows-some : 0 < rowLength s
+  rows-some = row-some s (narrow s (ok .bounded))
+
+  -- a frame starts before its tick 0, with nothing seen
+  start-seen : (h u : ℕ) → h ≡ 0 → u ≡ 0 → shownBefore s (tickNumber s h u) ≡ 0
+  start-seen h u p q = shown-closed control s ok h u (omega (arith, ok .half-holds)) ∙ shown-dark s h u (omega (arith, ok .bounded .vpreequalise .low))
+
+  module _ (g : Generator) (p : Placed s g) (b : AtStart g) where
+    pub at-start : AtTick s 0 g
+    at-start = record { placed = p; number = simp (b .half, b .at, zero-mul) }
+
+    pub seen-none : g .seen .0 ≡ 0
+    seen-none = p .seen-is ∙ start-seen (g .half .0) (g .at .0) (b .half) (b .at)
+
+  module _ (n : ℕ) (g : Generator) (a : AtTick s n g) where
+    abbrev h : ℕ
+    h = g .half .0
+
+    abbrev u : ℕ
+    u = g .at .0
+
+    shown-is : g .seen .0 ≡ shownAt s h u
+    shown-is = a .placed .seen-is ∙ shown-closed control s ok h u (a .placed .at-in)
+
+    -- a frame starts at its tick 0 only
+    pub start-number : AtStart g → n ≡ 0
+    start-number b =
+        let z : h * halfTicks s ≡ 0 = simp (b .half, zero-mul) in
+        omega (arith, a .number, b .at)
+
+    -- the frame's last tick: the last tick of the last half line
+    module _ (e : n + 1 ≡ frameTicks s) where
+      pub end-at : halfTicks s ≤ u + 1
+      end-at = last-at s h u (a .placed .half-in) (a .placed .at-in) (omega (arith, a .number))
+
+      pub end-half : halvesInFrame s ≤ h + 1
+      end-half = last-half s h u (a .placed .half-in) (a .placed .at-in) (omega (arith, a .number))
+
+      second-half : (h + halvesToVBlank s) % 2 ≡ 1
+      second-half = omega (arith, end-half, a .placed .half-in, ok .display-even, ok .blank-even)
+
+      in-display : halvesToVDisplay s ≤ h
+      in-display = omega (arith, end-half, ok .bounded .vdisplay .low)
+
+      past : displayFrom s + s .display .0 ≤ halfTicks s + u
+      past = omega (arith, end-at, ok .line-holds, ok .line-even)
+
+      -- it is not visible, and all visible ones lie before it
+      pub end-dark : visible s h u ≡ false
+      end-dark =
+          simp (lit s h u in-display, line-second s h u second-half, le-leb (displayFrom s) (halfTicks s + u) (omega (arith, past)), le-ltb (halfTicks s + u) (displayFrom s + s .display .0) past)
+
+      pub end-seen : g .seen .0 ≡ frameVisible s
+      end-seen =
+          let k : s .vdisplay .0 / 2 ≡ (h - halvesToVDisplay s) / 2 + 1 = omega (arith, end-half, a .placed .half-in, ok .display-even, ok .bounded .vdisplay .low) in
+          let d : min (s .display .0) (halfTicks s + u - displayFrom s) ≡ s .display .0 = omega (arith, past) in
+          shown-is ∙ simp (shown-lit s h u in-display, line-second s h u second-half, d, k) (omega arith)
+
+      pub end-past : halvesToVDisplay s * halfTicks s ≤ n
+      end-past = omega (arith, mul-le-mul-right (halfTicks s) in-display, a .number)
+
+    -- a visible tick lies in VDisplay
+    pub lit-past : visible s h u ≡ true → halvesToVDisplay s * halfTicks s ≤ n
+    lit-past v =
+        ⊎-elim
+        (λ (p : h < halvesToVDisplay s). let z : true ≡ false = sym v ∙ dark s h u p in absurd (let y : _≡_ {A = ℕ} 0 1 = cc in omega arith))
+        (λ (p : halvesToVDisplay s ≤ h). omega (arith, mul-le-mul-right (halfTicks s) p, a .number))
+        (below h (halvesToVDisplay s))
+
+    -- the first tick of VDisplay has nothing before it
+    pub first-seen : h ≡ halvesToVDisplay s → u ≡ 0 → g .seen .0 ≡ 0
+    first-seen p q =
+        let none : (halvesToVDisplay s - halvesToVDisplay s) / 2 ≡ 0 = omega arith in
+        shown-is ∙ simp (p, q, shown-lit s (halvesToVDisplay s) 0 (omega arith), line-first s (halvesToVDisplay s) 0 (omega (arith, ok .blank-even)), none, zero-mul) (omega arith)
+
+    -- and every other tick from there on a greater number
+    pub first-only : (h ≡ halvesToVDisplay s → ⊥) ⊎ (u ≡ 0 → ⊥) → halvesToVDisplay s * halfTicks s ≤ n → halvesToVDisplay s * halfTicks s < n
+    first-only other z =
+        ⊎-elim
+        (λ (p : h < halvesToVDisplay s). absurd (omega (arith, mul-le-mul-right (halfTicks s) p, a .number, a .placed .at-in)))
+        (λ (p : halvesToVDisplay s ≤ h). ⊎-elim (off p) (λ k. omega (arith, mul-le-mul-right (halfTicks s) p, a .number, some-at k)) other)
+        (below h (halvesToVDisplay s))
+      where
+        some-at : (u ≡ 0 → ⊥) → 0 < u
+        some-at k = omega arith
+
+        off : halvesToVDisplay s ≤ h → (h ≡ halvesToVDisplay s → ⊥) → halvesToVDisplay s * halfTicks s < n
+        off p k =
+            let q : halvesToVDisplay s + 1 ≤ h = omega arith in
+            omega (arith, mul-le-mul-right (halfTicks s) q, a .number, ok .half-holds)
