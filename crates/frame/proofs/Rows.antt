@@ -4,7 +4,7 @@ use mathlib.Core.Bool.{Bool, true, false, not, cond, _&&_, true≢false}
 use mathlib.Core.List.{List}
 use mathlib.Core.Logic.{_⊎_}
 use mathlib.Core.Path.{_≡_, refl, sym, ap, _∙_}
-use native.Mathlib.Nat.{mod-lt, mod-eq-of-lt, mod-add-mod, div-eq-of-lt-le, div-add-mod', zero-div, zero-add}
+use native.Mathlib.Nat.{mod-lt, mod-add-mod, div-eq-of-lt-le, div-add-mod', zero-div, zero-add}
 use native.Mathlib.Omega.{arith}
 use borrow.Author.Tests.{eqb-true, eqb-false, ltb-true, ltb-false}
 use lib.Dec.{ltb, eqb}
@@ -45,7 +45,7 @@ row-next n v p q z = go (v / n) (div-add-mod' v n)
 module _ (r : Registers) (ok : Accepted (r .control) (screen r)) (fits : r .top ≤ 0xFFFFFF) where
   first-row : topUsed r ≡ rowAddress r 0
   unfolding rowAddress
-  first-row = sym (ap (λ (n : ℕ). n % 2 ^ 24) (omega arith) ∙ mod-eq-of-lt (omega arith))
+  first-row = omega arith
 
   next-row : (j : ℕ) → rolled (rowAddress r j) (increment (r .control)) ≡ rowAddress r (j + 1)
   unfolding rowAddress
