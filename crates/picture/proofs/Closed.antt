@@ -1,0 +1,214 @@
+-- The picture that the code draws is the frame's, and so the ticks'. Assumes nothing.
+use Prim.Native.Nat.{ℕ, zero, suc, _+_, _*_, _/_, _%_, _^_, _≤_, _<_}
+use mathlib.Core.Bool.{Bool, true, false, not, cond, _&&_, _||_, true≢false}
+use mathlib.Core.List.{List, [], _∷_}
+use mathlib.Core.Path.{_≡_, refl, sym, ap, _∙_}
+use native.Mathlib.Nat.{pow-suc}
+use native.Mathlib.Omega.{arith}
+use borrow.Author.Tests.{eqb-true, eq-eqb, ne-eqb}
+use lib.Dec.{eqb, leb, leb→le}
+use lib.ListN.{length, replicate}
+use lib.Pow.{pow-mono}
+use Rattle.base.specs.Count.{run}
+use Rattle.base.proofs.Run.{run-same}
+use Rattle.base.proofs.Table.{entry}
+use Rattle.control.specs.Control.{running, forcedBlank, transferring, field, depth, pixelBits, increments, increment}
+use Rattle.control.proofs.Laws.{increment-positive}
+use Rattle.screen.specs.Totals.{frameTicks, frameVisible}
+use Rattle.screen.specs.Parameters.{rowLength}
+use Rattle.registers.specs.declared.Registers.{Registers}
+use Rattle.pixel.specs.Memory.{bitsAt, pixelShown}
+use Rattle.pixel.specs.Colour.{maskedPalette}
+use Rattle.pixel.specs.Dot.{codeShown, dotAt, black}
+use Rattle.pixel.specs.Cursor.{over}
+use Rattle.pixel.specs.Sums.{none, summed}
+use Rattle.pixel.specs.declared.Dot.{Dot}
+use Rattle.pixel.specs.declared.Sums.{Sums}
+use Rattle.pixel.proofs.Laws.{masked-palette-entry}
+use Rattle.generator.specs.Rows.{screen, place, asks}
+use Rattle.generator.specs.Tick.{dotOf, after}
+use Rattle.generator.specs.Sound.{Sound}
+use Rattle.generator.specs.declared.Generator.{Generator}
+use Rattle.frame.specs.Frame.{AtStart, drawn, refusedWithin, rowAddress, addressAt, placeAt, dotFor, pixels, pictureRefuses20, sumsTo, frameEnd, Whole}
+use Rattle.frame.proofs.Whole.{whole}
+use Rattle.picture.specs.Picture.{bytesOf, refuses22, refuses21, pictureRefusal, drawnOf, bufferOf}
+use Rattle.picture.specs.Span.{Painted, coveredDot}
+use Rattle.picture.specs.Plan.{Ready, planOf, Sized, addressIn, placeIn, dotIn, refusesIn, endIn}
+use Rattle.picture.specs.declared.Drawn.{Drawn}
+use Rattle.picture.specs.declared.rows.Plan.{Plan}
+use Rattle.picture.proofs.Spans.{painted-whole}
+
+-- a pixel of the build's depths is a byte
+bits-small : (m : List ℕ) (from n : ℕ) → bitsAt m from n < 2 ^ n
+unfolding bitsAt
+bits-small m from zero = omega arith
+bits-small m from (suc n) = rw pow-suc (omega (arith, bits-small m (suc from) n))
+
+pixel-small : (control : ℕ) (m : List ℕ) (i : ℕ) → pixelShown control m i < 256
+unfolding pixelShown
+pixel-small control m i = go (transferring control)
+  where
+    go : (t : Bool) → cond t (bitsAt m (i * pixelBits control) (pixelBits control)) 0 < 256
+    go true = omega (arith, bits-small m (i * pixelBits control) (pixelBits control), pow-mono {i = pixelBits control} {j = 8} (pow-mono {i = depth control} {j = 3} (omega arith)))
+    go false = omega arith
+
+increment-most : (control : ℕ) → increment control ≤ 1024
+increment-most control = leb→le _ _ (entry (λ code value. leb value 1024) increments tt (field 12 2 control) (omega arith))
+
+pub sized : (r : Registers) → Ready r → Sized (planOf r)
+unfolding planOf
+sized r ok =
+    let b = ok .accepted .bounded in
+    record {
+      display = b .display .low;
+      display-most = omega (arith, b .display .high);
+      lines = omega (arith, b .vdisplay .low, ok .accepted .display-even);
+      lines-most = omega (arith, b .vdisplay .high);
+      visible = refl;
+      row = omega (arith, b .meminit .low);
+      row-most = omega (arith, b .meminit .high, b .transferdelay .high);
+      top = ok .top-in;
+      increment = increment-positive (r .control);
+      increment-most = increment-most (r .control);
+    }
+
+module _ (r : Registers) (m : List ℕ) where
+  visible-link : planOf r .visible ≡ frameVisible (screen r)
+  unfolding planOf
+  visible-link = refl
+
+  refuses-link : refusesIn (planOf r) m ≡ pictureRefuses20 r m
+  unfolding refusesIn planOf placeIn addressIn pictureRefuses20 placeAt place rowAddress
+  refuses-link = refl
+
+  end-link : endIn (planOf r) (sumsTo r m (frameVisible (screen r))) ≡ frameEnd r m
+  unfolding endIn planOf addressIn frameEnd rowAddress asks
+  end-link = refl
+
+  -- the mask applied to the palette once is the mask applied to each pixel
+  dot-same : (i : ℕ) → dotIn (planOf r) (maskedPalette (r .palette) (r .mask)) (r .store) (r .colours) m i ≡ dotOf r m (addressAt r (i / 4)) (i / 4) (i % 4)
+  unfolding dotIn coveredDot planOf placeIn addressIn dotOf dotAt place rowAddress
+  dot-same i =
+      ap (λ (below : ℕ). record { colour = over (r .colours) (codeShown r (r .position) (4 * (i / 4 % screen r .display .0) + i % 4) (i / 4 / screen r .display .0)) below })
+      (masked-palette-entry (r .palette) (r .mask) _ (pixel-small (r .control) m (place r (addressAt r (i / 4)) (i / 4) (i % 4))))
+
+  dot-link : forcedBlank (r .control) ≡ false → (i : ℕ) → dotIn (planOf r) (maskedPalette (r .palette) (r .mask)) (r .store) (r .colours) m i ≡ dotFor r m i
+  unfolding dotFor
+  dot-link e i = dot-same i ∙ simp e
+
+  -- forced blank: black dots, none of them added
+  module _ (e : forcedBlank (r .control) ≡ true) where
+    black-link : (i : ℕ) → dotFor r m i ≡ black
+    unfolding dotFor
+    black-link i = simp e
+
+    black-bytes : (from n : ℕ) → bytesOf (run (dotFor r m) from n) ≡ replicate (3 * n) 0
+    unfolding bytesOf run
+    black-bytes from zero = refl
+    black-bytes from (suc n) =
+        let three : 3 * suc n ≡ suc (suc (suc (3 * n))) = omega arith in
+        rw (black-link from, three, black-bytes (suc from) n)
+
+    pub frame-black : (s : Sums) (before after : List ℕ) → s ≡ none → length before ≡ 3 * pixels r → after ≡ replicate (length before) 0 →
+        (s ≡ sumsTo r m (frameVisible (screen r))) × (after ≡ bytesOf (run (dotFor r m) 0 (pixels r)))
+    unfolding sumsTo
+    frame-black s before after z n a = (z ∙ simp e, a ∙ rw n (sym (black-bytes 0 (pixels r))))
+
+  pub frame-lit : forcedBlank (r .control) ≡ false → (p : Plan) → p ≡ planOf r → (table : List ℕ) → table ≡ maskedPalette (r .palette) (r .mask) → {before after : List ℕ} {s : Sums} → length before ≡ 3 * pixels r →
+      Painted before 0 none (run (dotIn p table (r .store) (r .colours) m) 0 (4 * p .visible)) after s → (s ≡ sumsTo r m (frameVisible (screen r))) × (after ≡ bytesOf (run (dotFor r m) 0 (pixels r)))
+  unfolding sumsTo
+  frame-lit e p ep table et {before} {after} {s} n d =
+      let f = dotIn (planOf r) (maskedPalette (r .palette) (r .mask)) (r .store) (r .colours) m in
+      let same : run (dotIn p table (r .store) (r .colours) m) 0 (4 * p .visible) ≡ run (dotFor r m) 0 (pixels r) =
+      rw (ep, et) (ap (λ (n : ℕ). run f 0 (4 * n)) visible-link ∙ run-same f (dotFor r m) 0 0 (pixels r) (λ k l. dot-link e (0 + k))) in
+      let q : Painted before 0 none (run (dotFor r m) 0 (pixels r)) after s = rw same at d in
+      (q .added ∙ simp e, painted-whole (dotFor r m) (pixels r) q n)
+
+  -- the size of the buffer, as the code counts it
+  pub size-link : (p : Plan) → p ≡ planOf r → 12 * p .visible ≡ 3 * pixels r
+  size-link p e = rw (e, visible-link) (omega arith)
+
+three : (a b c : Bool) → (not a || not (b && c)) ≡ false → (a ≡ true) × (b ≡ true) × (c ≡ true)
+three true true true e = (refl, refl, refl)
+three true true false e = absurd (true≢false e)
+three true false c e = absurd (true≢false e)
+three false b c e = absurd (true≢false e)
+
+module _ (r : Registers) (g : Generator) (sound : Sound r g) (begins : refuses22 r g ≡ false) where
+  abbrev begun : (running (r .control) ≡ true) × (eqb (g .half .0) 0 ≡ true) × (eqb (g .at .0) 0 ≡ true)
+  begun = three (running (r .control)) (eqb (g .half .0) 0) (eqb (g .at .0) 0) begins
+
+  pub ready : Ready r
+  ready = record { accepted = sound .accepted (begun .0); top-in = sound .held .top }
+
+  pub plan-sized : (p : Plan) → p ≡ planOf r → Sized p
+  plan-sized p e = rw e (sized r ready)
+
+  ticks : (m : List ℕ) → Whole r m g
+  ticks m = whole r m g sound (begun .0) (record { half = eqb-true _ _ (begun .1); at = eqb-true _ _ (begun .2) })
+
+  refused-link : (m : List ℕ) (p : Plan) → p ≡ planOf r → refusedWithin r m g (frameTicks (screen r)) ≡ refusesIn p m
+  refused-link m p e = ticks m .refusal ∙ rw e (sym (refuses-link r m))
+
+-- the refusal, in each case
+module _ (r : Registers) (m : List ℕ) (g : Generator) (size : ℕ) (sound : Sound r g) (early : Bool) (ee : early ≡ refuses22 r g) where
+  pub refusal-22 : early ≡ true → 22 ≡ pictureRefusal r m g size
+  unfolding pictureRefusal
+  refusal-22 t = simp (sym ee ∙ t)
+
+  module _ (f : early ≡ false) (p : Plan) (ep : p ≡ planOf r) where
+    pub refusal-21 : (size ≡ 12 * p .visible → ⊥) → 21 ≡ pictureRefusal r m g size
+    unfolding pictureRefusal
+    refusal-21 n = simp (sym ee ∙ f, ne-eqb size (3 * pixels r) (λ e. n (e ∙ sym (size-link r m p ep))))
+
+    pub refusal-20 : size ≡ 12 * p .visible → (far : Bool) → far ≡ refusesIn p m → (n : ℕ) → n ≡ cond far 20 0 → n ≡ pictureRefusal r m g size
+    unfolding pictureRefusal
+    refusal-20 s far ef n en =
+        simp (sym ee ∙ f, eq-eqb size (3 * pixels r) (s ∙ size-link r m p ep), refused-link r g sound (sym ee ∙ f) m p ep) (en ∙ rw ef)
+
+-- no refusal: what that says
+record Free (r : Registers) (m : List ℕ) (g : Generator) (size : ℕ) : Type 0 where
+  begins : refuses22 r g ≡ false
+  fits : size ≡ 3 * pixels r
+  near : refusedWithin r m g (frameTicks (screen r)) ≡ false
+
+free : (r : Registers) (m : List ℕ) (g : Generator) (size : ℕ) → pictureRefusal r m g size ≡ 0 → Free r m g size
+unfolding pictureRefusal
+free r m g size = go (refuses22 r g) refl (eqb size (3 * pixels r)) refl (refusedWithin r m g (frameTicks (screen r))) refl
+  where
+    go : (a : Bool) → refuses22 r g ≡ a → (b : Bool) → eqb size (3 * pixels r) ≡ b → (c : Bool) → refusedWithin r m g (frameTicks (screen r)) ≡ c → _≡_ {A = ℕ} (cond a 22 (cond (not b) 21 (cond c 20 0))) 0 → Free r m g size
+    go false ea true eb false ec e = record { begins = ea; fits = eqb-true _ _ eb; near = ec }
+    go false ea true eb true ec e = absurd (omega arith)
+    go false ea false eb c ec e = absurd (omega arith)
+    go true ea b eb c ec e = absurd (omega arith)
+
+module _ (r : Registers) (m : List ℕ) (g : Generator) (before : List ℕ) (n : ℕ) (en : n ≡ pictureRefusal r m g (length before)) where
+  pub refused-whole : (n ≡ 0 → ⊥) → (record { refusal = n; next = g } ≡ drawnOf r m g (length before)) × (before ≡ bufferOf r m g before)
+  unfolding drawnOf bufferOf
+  refused-whole z =
+      let no = ne-eqb (pictureRefusal r m g (length before)) 0 (λ e. z (en ∙ e)) in
+      (rw en (simp no), simp no)
+
+  module _ (sound : Sound r g) (z : n ≡ 0) where
+    abbrev clear : Free r m g (length before)
+    clear = free r m g (length before) (sym en ∙ z)
+
+    pub ready-free : Ready r
+    ready-free = ready r g sound (clear .begins)
+
+    pub fits-free : length before ≡ 3 * pixels r
+    fits-free = clear .fits
+
+    module _ (p : Plan) (ep : p ≡ planOf r) where
+      pub sized-free : Sized p
+      sized-free = plan-sized r g sound (clear .begins) p ep
+
+      pub drawn-whole : (s : Sums) (next : Generator) (after′ : List ℕ) → s ≡ sumsTo r m (frameVisible (screen r)) → after′ ≡ bytesOf (run (dotFor r m) 0 (pixels r)) → next ≡ endIn p s →
+          (record { refusal = 0; next = next } ≡ drawnOf r m g (length before)) × (after′ ≡ bufferOf r m g before)
+      unfolding drawnOf bufferOf
+      drawn-whole s next after′ es ea ee =
+          let w = ticks r g sound (clear .begins) m in
+          let near = sym (w .refusal) ∙ clear .near in
+          let zero = sym en ∙ z in
+          let end : next ≡ after r m g (frameTicks (screen r)) = ee ∙ rw (ep, es) (end-link r m) ∙ sym (w .end near) in
+          (simp (zero, end), simp zero (ea ∙ ap bytesOf (sym (w .colours near))))

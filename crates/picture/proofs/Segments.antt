@@ -1,0 +1,161 @@
+-- The segments of a frame: what fits, where their places and colours stand, and that they join. Assumes nothing.
+use Prim.Native.Nat.{ℕ, zero, suc, _+_, _-_, _*_, _/_, _%_, _^_, _≤_, _<_, min}
+use mathlib.Core.Bool.{Bool, true, false, not, _&&_, _||_, true≢false}
+use mathlib.Core.List.{List}
+use mathlib.Core.Path.{_≡_, refl, sym, ap, _∙_}
+use native.Mathlib.Nat.{mul-le-mul, mul-le-mul-right, mul-le-mul-left, mul-pos, div-le-self, div-lt-iff-lt-mul, div-eq-of-lt-le, div-add-mod', mod-lt, zero-add, add-zero, add-suc, mul-comm}
+use native.Mathlib.Omega.{arith}
+use Rattle.base.specs.Count.{some, run}
+use Rattle.base.proofs.Run.{run-same}
+use Rattle.control.specs.Control.{forcedBlank, transferring, pixelBits}
+use Rattle.pixel.specs.Memory.{endsBeyond}
+use Rattle.pixel.specs.declared.Dot.{Dot}
+use Rattle.pixel.specs.declared.Sums.{Sums}
+use Rattle.pixel.proofs.Laws.{ends-beyond-later}
+use Rattle.generator.proofs.Bounds.{place-in}
+use Rattle.picture.specs.Span.{Painted, coveredDot, segmentDot}
+use Rattle.picture.specs.Plan.{Sized, addressIn, placeIn, dotIn, refusesIn, Cut}
+use Rattle.picture.specs.declared.rows.Plan.{Plan}
+use Rattle.picture.specs.declared.rows.Segment.{Segment}
+use Rattle.picture.proofs.Spans.{painted-on}
+
+-- j on inside one turn of d
+div-on : (d v j : ℕ) → v % d + j < d → (v + j) / d ≡ v / d
+div-on d v j p = div-eq-of-lt-le d (omega (arith, div-add-mod' v d)) (omega (arith, div-add-mod' v d))
+
+mod-on : (d v j : ℕ) → v % d + j < d → (v + j) % d ≡ v % d + j
+mod-on d v j p = omega (arith, div-add-mod' v d, div-add-mod' (v + j) d, ap (λ (n : ℕ). n * d) (div-on d v j p))
+
+module _ (p : Plan) (ok : Sized p) where
+  pub visible-some : 0 < p .visible
+  visible-some = rw (ok .visible) (mul-pos (ok .display) (ok .lines))
+
+  pub visible-most : p .visible ≤ 0xFFFFFF * 0xFFFFFF
+  visible-most = rw (ok .visible) (mul-le-mul (ok .display-most) (ok .lines-most))
+
+  module _ (v : ℕ) (q : v < p .visible) where
+    pub rows-most : v / p .row * p .increment ≤ 0xFFFFFF * 0xFFFFFF * 1024
+    rows-most = mul-le-mul {n₁ = v / p .row} {n₂ = 0xFFFFFF * 0xFFFFFF} (omega (arith, div-le-self v (p .row), visible-most)) (ok .increment-most)
+
+    pub unit-most : (address : ℕ) → address < 2 ^ 24 → address / p .increment * p .row + v % p .row < 2 ^ 58
+    unit-most address h = place-in address (p .increment) (p .row) v (omega arith) (ok .row) (omega (arith, ok .row-most))
+
+    pub place-by : (address : ℕ) → address ≡ addressIn p v → (address / p .increment * p .row + v % p .row) * 4 ≡ placeIn p (4 * v)
+    unfolding placeIn
+    place-by address e =
+        let a : 4 * v / 4 ≡ v = omega arith in
+        let b : 4 * v % 4 ≡ 0 = omega arith in
+        simp (a, b, add-zero, e)
+
+    in-line : v % p .display < p .display
+    in-line = mod-lt v (ok .display)
+
+    line-in : v / p .display < p .lines
+    line-in = div-lt-iff-lt-mul (ok .display) .1 (rw (ok .visible, mul-comm) at q)
+
+    pub cut-by : (ticks from : ℕ) → ticks ≡ min (p .display - v % p .display) (p .row - v % p .row) → from ≡ placeIn p (4 * v) → from < 2 ^ 60 →
+        Cut p v (record { column = v % p .display; line = v / p .display; ticks = ticks; from = from })
+    cut-by ticks from e f b =
+        let whole = mul-le-mul-right {m = v / p .display + 1} {n = p .lines} (p .display) (omega (arith, line-in)) in
+        let in-row = mod-lt v (ok .row) in
+        record {
+          some = omega (arith, in-line);
+          column = refl;
+          line = refl;
+          from = f;
+          in-line = omega (arith, in-line);
+          in-row = omega arith;
+          in-frame = omega (arith, in-line, div-add-mod' v (p .display), ok .visible, mul-comm (p .display) (p .lines));
+          column-most = omega (arith, in-line, ok .display-most);
+          line-most = omega (arith, line-in, ok .lines-most);
+          from-most = b;
+        }
+
+or-assoc : (a b c : Bool) → ((a || b) || c) ≡ (a || (b || c))
+or-assoc true b c = refl
+or-assoc false b c = refl
+
+or-none : (a : Bool) → a ≡ (a || false)
+or-none true = refl
+or-none false = refl
+
+or-later : (a b : Bool) → (a ≡ true → b ≡ true) → (a || b) ≡ b
+or-later true b h = sym (h refl)
+or-later false b h = refl
+
+some-append : (test : ℕ → Bool) (a n : ℕ) → some test (a + n) ≡ (some test a || some (λ k. test (a + k)) n)
+unfolding some
+some-append test a zero = rw add-zero (or-none (some test a))
+some-append test a (suc n) = rw (add-suc, some-append test a n, or-assoc)
+
+-- of numbers whose places are a run, one ends beyond the memory where the last does
+some-last : (bits : ℕ) (m : List ℕ) (place : ℕ → ℕ) (from n : ℕ) → ((k : ℕ) → k < suc n → place k ≡ from + k) → some (λ k. endsBeyond bits m (place k)) (suc n) ≡ endsBeyond bits m (from + n)
+unfolding some
+some-last bits m place from zero h = ap (endsBeyond bits m) (h 0 (omega arith))
+some-last bits m place from (suc n) h =
+    rw (some-last bits m place from n (λ k l. h k (omega arith)), h (suc n) (omega arith))
+    (or-later _ _ (λ e. ends-beyond-later bits m (from + n) (from + suc n) (omega arith) e))
+
+module _ (p : Plan) (v : ℕ) (g : Segment) (c : Cut p v g) where
+  -- the places of a segment are a run of places
+  place-on : (k : ℕ) → k < 4 * g .ticks → placeIn p (4 * v + k) ≡ g .from + k
+  unfolding placeIn addressIn
+  place-on k l =
+      let t : (4 * v + k) / 4 ≡ v + k / 4 = omega arith in
+      let t′ : 4 * v / 4 ≡ v = omega arith in
+      let m : (4 * v + k) % 4 ≡ k % 4 = omega arith in
+      let m′ : 4 * v % 4 ≡ 0 = omega arith in
+      let r : v % p .row + k / 4 < p .row = omega (arith, c .in-row) in
+      simp (c .from, t, t′, m, m′, div-on (p .row) v (k / 4) r, mod-on (p .row) v (k / 4) r) (omega arith)
+
+  -- one more segment of the places looked through
+  pub beyond-more : (bits : ℕ) (memory : List ℕ) (beyond far : Bool) → beyond ≡ some (λ i. endsBeyond bits memory (placeIn p i)) (4 * v) → far ≡ endsBeyond bits memory (g .from + 4 * g .ticks - 1) →
+      (beyond || far) ≡ some (λ i. endsBeyond bits memory (placeIn p i)) (4 * (v + g .ticks))
+  beyond-more bits memory beyond far e f =
+      let n = 4 * g .ticks - 1 in
+      let all : 4 * (v + g .ticks) ≡ 4 * v + suc n = omega (arith, c .some) in
+      let last : g .from + 4 * g .ticks - 1 ≡ g .from + n = omega (arith, c .some) in
+      sym (rw (all, some-append, some-last bits memory (λ k. placeIn p (4 * v + k)) (g .from) n (λ k l. place-on k (omega (arith, c .some))), ← last, ← e, ← f))
+
+  -- one more segment painted
+  module _ (table store colours memory : List ℕ) where
+    abbrev dot : ℕ → Dot
+    dot = segmentDot (p .control) (p .position) table store colours memory (g .from) (4 * g .column) (g .line)
+
+    dot-on : (j : ℕ) → j < 4 * g .ticks → dotIn p table store colours memory (4 * v + j) ≡ dot (0 + j)
+    unfolding dotIn segmentDot
+    dot-on j l =
+        let t : (4 * v + j) / 4 ≡ v + j / 4 = omega arith in
+        let r : v % p .display + j / 4 < p .display = omega (arith, c .in-line) in
+        let x : 4 * ((4 * v + j) / 4 % p .display) + (4 * v + j) % 4 ≡ 4 * g .column + j = rw (t, mod-on (p .display) v (j / 4) r) (omega (arith, c .column)) in
+        let y : (4 * v + j) / 4 / p .display ≡ g .line = rw (t, div-on (p .display) v (j / 4) r) (sym (c .line)) in
+        rw (zero-add, x, y, place-on j l)
+
+    pub painted-rows : (b : List ℕ) (s : Sums) (b′ : List ℕ) (s′ : Sums) (b″ : List ℕ) (s″ : Sums) →
+        Painted b 0 s (run (dotIn p table store colours memory) 0 (4 * v)) b′ s′ → Painted b′ (12 * v) s′ (run dot 0 (4 * g .ticks)) b″ s″ →
+        Painted b 0 s (run (dotIn p table store colours memory) 0 (4 * (v + g .ticks))) b″ s″
+    painted-rows b s b′ s′ b″ s″ d e =
+        let f = dotIn p table store colours memory in
+        let n : 4 * (v + g .ticks) ≡ 4 * v + 4 * g .ticks = omega arith in
+        let same : run f (0 + 4 * v) (4 * g .ticks) ≡ run dot 0 (4 * g .ticks) = rw zero-add (run-same f dot (4 * v) 0 (4 * g .ticks) dot-on) in
+        rw n (painted-on {k = 12 * v} f 0 (4 * v) (4 * g .ticks) d (omega arith) (rw same e))
+
+read-all : (a b c : Bool) → (a && b) ≡ true → c ≡ (a && (b && c))
+read-all true true c e = refl
+read-all true false c e = absurd (true≢false (sym e))
+read-all false b c e = absurd (true≢false (sym e))
+
+read-none : (a b c : Bool) → (a && b) ≡ false → false ≡ (a && (b && c))
+read-none true true c e = absurd (true≢false e)
+read-none true false c e = refl
+read-none false b c e = refl
+
+-- where the memory is read, and where it is not
+module _ (p : Plan) (m : List ℕ) (blank on : Bool) (eb : blank ≡ forcedBlank (p .control)) (eo : on ≡ transferring (p .control)) where
+  pub refuses-read : (not blank && on) ≡ true → (far : Bool) → far ≡ some (λ i. endsBeyond (pixelBits (p .control)) m (placeIn p i)) (4 * p .visible) → far ≡ refusesIn p m
+  unfolding refusesIn
+  refuses-read e far f = f ∙ rw (← eb, ← eo) (read-all (not blank) on _ e)
+
+  pub refuses-unread : (not blank && on) ≡ false → false ≡ refusesIn p m
+  unfolding refusesIn
+  refuses-unread e = rw (← eb, ← eo) (read-none (not blank) on _ e)

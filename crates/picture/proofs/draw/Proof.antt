@@ -1,0 +1,55 @@
+-- `picture::draw` meets its contract: a refusal changes nothing; else the frame in closed form, which is the ticks' own. Assumes nothing.
+use borrow.Author.Needs.{needs}
+use Rattle.picture.proofs.Closed.{ready-free, fits-free, sized-free, drawn-whole, refused-whole}
+use Rattle.picture.proofs.draw.Statement.{statement}
+use Rattle.picture.proofs.draw.Tie as tie
+
+plan-of-requires : tie.Need-plan-of-requires
+plan-of-requires c κs =
+    let start = c .before .before .before .before in
+    ready-free (start .args .r) (start .args .memory .now) (start .args .g) (start .args .buffer .now) _ (c .before .refusal-of .ensures) (start .pre) (c .if1 .taken)
+
+draw-frame-requires : tie.Need-draw-frame-requires
+draw-frame-requires c κs =
+    let go = c .before .before in
+    let start = go .before .before .before .before in
+    let args = start .args in (
+      ready-free (args .r) (args .memory .now) (args .g) (args .buffer .now) _ (go .before .refusal-of .ensures) (start .pre) (go .if1 .taken),
+      (
+        c .before .plan-of .ensures,
+        fits-free (args .r) (args .memory .now) (args .g) (args .buffer .now) _ (go .before .refusal-of .ensures) (start .pre) (go .if1 .taken),
+      ),
+    )
+
+end-of-requires : tie.Need-end-of-requires
+end-of-requires c κs =
+    let plan = c .before .before .before .before in
+    let go = plan .before in
+    let start = go .before .before .before .before in
+    sized-free (start .args .r) (start .args .memory .now) (start .args .g) (start .args .buffer .now) _ (go .before .refusal-of .ensures) (start .pre) (go .if1 .taken) _ (plan .plan-of .ensures)
+
+returns : tie.Need-returns
+returns c =
+    let plan = c .before .before .before .before .before in
+    let go = plan .before in
+    let start = go .before .before .before .before in
+    let drawn = c .before .before .before in
+    drawn-whole (start .args .r) (start .args .memory .now) (start .args .g) (start .args .buffer .now) _ (go .before .refusal-of .ensures) (start .pre) (go .if1 .taken) _ (plan .plan-of .ensures) _ _ _
+    (drawn .draw-frame .ensures .0) (drawn .draw-frame .ensures .1) (c .end-of .ensures)
+
+returns-2 : tie.Need-returns-2
+returns-2 c =
+    let start = c .before .before .before .before in
+    refused-whole (start .args .r) (start .args .memory .now) (start .args .g) (start .args .buffer .now) _ (c .before .refusal-of .ensures) (c .if1 .left)
+
+pub draw-spec : {M : Type 1} → statement M
+draw-spec =
+    tie.close
+    (tie.spec
+    (λ c κs. search needs)
+    plan-of-requires
+    draw-frame-requires
+    end-of-requires
+    (λ c. search needs)
+    returns
+    returns-2)

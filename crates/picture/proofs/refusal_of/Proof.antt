@@ -1,0 +1,50 @@
+-- `picture::refusal_of` meets its contract: 22, 21, 20, each from its own law. Assumes nothing.
+use mathlib.Core.Bool.{false}
+use mathlib.Core.Path.{_≡_, sym, _∙_}
+use native.Mathlib.Omega.{arith}
+use borrow.Author.Needs.{needs}
+use Rattle.picture.specs.Picture.{refuses22}
+use Rattle.picture.specs.Plan.{Sized}
+use Rattle.picture.proofs.Segments.{visible-most}
+use Rattle.picture.proofs.Closed.{ready, plan-sized, refusal-22, refusal-21, refusal-20}
+use Rattle.picture.proofs.refusal_of.Statement.{statement}
+use Rattle.picture.proofs.refusal_of.Tie as tie
+
+begins : (c : tie.Else1) → refuses22 (c .before .before .before .args .r) (c .before .before .before .args .g) ≡ false
+begins c = sym (c .before .refuses-22 .ensures) ∙ c .if1 .left
+
+plan : (c : tie.After-plan-of) → Sized (c .plan-of .result)
+plan c = let start = c .before .before .before .before in plan-sized (start .args .r) (start .args .g) (start .pre) (begins (c .before)) _ (c .plan-of .ensures)
+
+returns : tie.Need-returns
+returns c =
+    let start = c .before .before .before in
+    refusal-22 (start .args .r) (start .args .memory .now) (start .args .g) (start .args .size) (start .pre) _ (c .before .refuses-22 .ensures) (c .if1 .taken)
+
+returns-2 : tie.Need-returns-2
+returns-2 c =
+    let p = c .before .before .before .before in
+    let early = p .before in
+    let start = early .before .before .before in
+    refusal-20 (start .args .r) (start .args .memory .now) (start .args .g) (start .args .size) (start .pre) _ (early .before .refuses-22 .ensures) (early .if1 .left) _ (p .plan-of .ensures)
+    (c .before .before .if2 .taken) _ (c .before .refuses-20 .ensures) _ (c .first .ensures)
+
+returns-3 : tie.Need-returns-3
+returns-3 c =
+    let p = c .before .before in
+    let early = p .before in
+    let start = early .before .before .before in
+    refusal-21 (start .args .r) (start .args .memory .now) (start .args .g) (start .args .size) (start .pre) _ (early .before .refuses-22 .ensures) (early .if1 .left) _ (p .plan-of .ensures) (c .if2 .left)
+
+pub refusal-of-spec : {M : Type 1} → statement M
+refusal-of-spec =
+    tie.close
+    (tie.spec
+    (λ c κs. search needs)
+    returns
+    (λ c κs. let start = c .before .before .before in ready (start .args .r) (start .args .g) (start .pre) (begins c))
+    (λ c. omega (arith, visible-most _ (plan (c .before))))
+    (λ c κs. plan (c .before .before))
+    (λ c κs. search needs)
+    returns-2
+    returns-3)

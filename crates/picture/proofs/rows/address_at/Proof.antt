@@ -1,0 +1,18 @@
+-- `picture::rows::address_at` meets its contract: the rows of a frame fit. Assumes nothing.
+use mathlib.Core.Path.{refl}
+use native.Mathlib.Omega.{arith}
+use borrow.Author.Needs.{needs}
+use Rattle.picture.specs.Plan.{addressIn}
+use Rattle.picture.proofs.Segments.{rows-most}
+use Rattle.picture.proofs.rows.address_at.Statement.{statement}
+use Rattle.picture.proofs.rows.address_at.Tie as tie
+
+pub address-at-spec : {M : Type 1} → statement M
+unfolding addressIn
+address-at-spec =
+    tie.close
+    (tie.spec
+    (λ c. search needs)
+    (λ c. let s = c .before .before in omega (arith, rows-most (s .args .p) (s .pre .0) (s .args .v) (s .pre .1)))
+    (λ c. let s = c .before .before .before in omega (arith, rows-most (s .args .p) (s .pre .0) (s .args .v) (s .pre .1), s .pre .0 .top))
+    (λ c. (refl, omega arith)))

@@ -1,0 +1,22 @@
+-- `picture::rows::segment_at` meets its contract: up to the line's end or the row's, whichever comes first. Assumes nothing.
+use native.Mathlib.Nat.{mod-lt}
+use native.Mathlib.Omega.{arith}
+use borrow.Author.Needs.{needs}
+use Rattle.picture.proofs.Segments.{cut-by}
+use Rattle.picture.proofs.rows.segment_at.Statement.{statement}
+use Rattle.picture.proofs.rows.segment_at.Tie as tie
+
+pub segment-at-spec : {M : Type 1} → statement M
+segment-at-spec =
+    tie.close
+    (tie.spec
+    (λ c. search needs)
+    (λ c. search needs)
+    (λ c. let s = c .before .before .before in omega (arith, mod-lt (s .args .v) (s .pre .0 .display)))
+    (λ c. search needs)
+    (λ c. let s = c .before .before .before .before .before in omega (arith, mod-lt (s .args .v) (s .pre .0 .row)))
+    (λ c κs. search needs)
+    (λ c κs. search needs)
+    (λ c.
+    let s = c .before .before .before .before .before .before .before in
+    cut-by (s .args .p) (s .pre .0) (s .args .v) (s .pre .1) _ _ (c .before .least .ensures) (c .first-place .ensures .0) (c .first-place .ensures .1)))

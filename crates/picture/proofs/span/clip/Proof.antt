@@ -1,0 +1,33 @@
+-- `picture::span::clip` meets its contract: outside the columns from `left` to `right` the cursor has no code. Assumes nothing.
+use borrow.Author.Needs.{needs}
+use Rattle.picture.proofs.Clips.{clip-columns, clip-nothing}
+use Rattle.picture.proofs.span.clip.Statement.{statement}
+use Rattle.picture.proofs.span.clip.Tie as tie
+
+pub clip-spec : {M : Type 1} → statement M
+clip-spec =
+    tie.close
+    (tie.spec
+    (λ c κs. search needs)
+    (λ c κs. search needs)
+    (λ c κs. search needs)
+    (λ c. search needs)
+    (λ c. search needs)
+    (λ c. search needs)
+    (λ c κs. search needs)
+    (λ c. search needs)
+    (λ c κs. search needs)
+    (λ c.
+    let on = c .before .before .before .before .before in
+    let a = on .before .args in
+    clip-columns (a .control) (a .position) (a .x) (a .y) (a .count) _ (on .is-cursor-on .ensures) _ _
+    (c .before .before .before .before .biased .ensures)
+    (c .before .before .before .biased2 .ensures)
+    _ _ (c .before .edge .ensures) (c .edge2 .ensures))
+    (λ c.
+    let on = c .before .before .before in
+    let a = on .before .args in
+    clip-nothing (a .control) (a .position) (a .x) (a .y) (a .count) _ (on .is-cursor-on .ensures) _ _
+    (c .before .before .biased .ensures)
+    (c .before .biased2 .ensures)
+    (c .if1 .left)))

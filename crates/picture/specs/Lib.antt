@@ -1,0 +1,5 @@
+-- A whole picture: its promise, and the definitions of the code that draws it.
+pub mod Picture
+pub mod Span
+pub mod Plan
+pub mod Machines

@@ -1,0 +1,93 @@
+-- A frame on plain numbers, as the code draws it: addresses, places, colours, segments, the end. Assumes nothing.
+use Prim.Native.Nat.{ℕ, _+_, _-_, _*_, _/_, _%_, _^_, _≤_, _<_}
+use mathlib.Core.Bool.{Bool, not, _&&_}
+use mathlib.Core.List.{List}
+use mathlib.Core.Path.{_≡_}
+use lib.Dec.{leb}
+use Rattle.base.specs.Count.{some}
+use Rattle.control.specs.Control.{forcedBlank, transferring, increment, pixelBits}
+use Rattle.screen.specs.Parameters.{rowLength}
+use Rattle.screen.specs.Limits.{Accepted}
+use Rattle.screen.specs.Totals.{frameVisible}
+use Rattle.registers.specs.declared.Registers.{Registers}
+use Rattle.pixel.specs.Memory.{endsBeyond}
+use Rattle.pixel.specs.declared.Dot.{Dot}
+use Rattle.pixel.specs.declared.Sums.{Sums}
+use Rattle.generator.specs.Rows.{screen}
+use Rattle.generator.specs.declared.Generator.{Generator}
+use Rattle.picture.specs.Span.{coveredDot}
+use Rattle.picture.specs.declared.rows.Plan.{Plan}
+use Rattle.picture.specs.declared.rows.Segment.{Segment}
+
+-- the part of the one condition that a picture uses
+pub record Ready (r : Registers) : Type 0 where
+  pub accepted : Accepted (r .control) (screen r)
+  pub top-in : r .top ≤ 0xFFFFFF
+
+unfoldable pub planOf : Registers → Plan
+planOf r =
+    record {
+      display = screen r .display .0;
+      lines = screen r .vdisplay .0 / 2;
+      visible = frameVisible (screen r);
+      meminit = screen r .meminit .0;
+      row = rowLength (screen r);
+      top = r .top;
+      increment = increment (r .control);
+      control = r .control;
+      position = r .position;
+    }
+
+-- numbers that 24 bits bound
+pub record Sized (p : Plan) : Type 0 where
+  pub display : 0 < p .display
+  pub display-most : p .display ≤ 0xFFFFFF
+  pub lines : 0 < p .lines
+  pub lines-most : p .lines ≤ 0xFFFFFF
+  pub visible : p .visible ≡ p .display * p .lines
+  pub row : 0 < p .row
+  pub row-most : p .row ≤ 2 ^ 25
+  pub top : p .top ≤ 0xFFFFFF
+  pub increment : 0 < p .increment
+  pub increment-most : p .increment ≤ 1024
+
+-- the address held at visible tick v, and the place of visible pixel i
+unfoldable pub addressIn : Plan → ℕ → ℕ
+addressIn p v = (p .top + v / p .row * p .increment) % 2 ^ 24
+
+unfoldable pub placeIn : Plan → ℕ → ℕ
+placeIn p i = (addressIn p (i / 4) / p .increment * p .row + i / 4 % p .row) * 4 + i % 4
+
+-- its colour, through a table of 256 and under the cursor
+unfoldable pub dotIn : Plan → List ℕ → List ℕ → List ℕ → List ℕ → ℕ → Dot
+dotIn p table store colours m i =
+    coveredDot (p .control) (p .position) table store colours m (placeIn p i) (4 * (i / 4 % p .display) + i % 4) (i / 4 / p .display)
+
+unfoldable pub refusesIn : Plan → List ℕ → Bool
+refusesIn p m =
+    not (forcedBlank (p .control))
+    && (transferring (p .control) && some (λ i. endsBeyond (pixelBits (p .control)) m (placeIn p i)) (4 * p .visible))
+
+unfoldable pub endIn : Plan → Sums → Generator
+endIn p sums =
+    record {
+      half = record { 0 = 0 };
+      at = record { 0 = 0 };
+      seen = record { 0 = 0 };
+      held = addressIn p (p .visible - 1);
+      asked = transferring (p .control) && leb (p .meminit) ((p .visible - 1) % p .row);
+      sums = sums;
+    }
+
+-- the segment from visible tick v on, up to the line's end or the row's
+pub record Cut (p : Plan) (v : ℕ) (g : Segment) : Type 0 where
+  pub some : 0 < g .ticks
+  pub column : g .column ≡ v % p .display
+  pub line : g .line ≡ v / p .display
+  pub from : g .from ≡ placeIn p (4 * v)
+  pub in-line : v % p .display + g .ticks ≤ p .display
+  pub in-row : v % p .row + g .ticks ≤ p .row
+  pub in-frame : v + g .ticks ≤ p .visible
+  pub column-most : g .column + g .ticks ≤ 0xFFFFFF
+  pub line-most : g .line < 0xFFFFFF
+  pub from-most : g .from < 2 ^ 60

@@ -1,0 +1,52 @@
+-- Stretches of pixels as the code draws them: a colour through a table of 256, the cursor over it, bytes and sums. Assumes nothing.
+use Prim.Native.Nat.{ℕ, _+_, _%_, _≤_, _<_}
+use mathlib.Core.Bool.{cond}
+use mathlib.Core.List.{List}
+use mathlib.Core.Path.{_≡_}
+use lib.ListN.{getD}
+use lib.Seq.{sets}
+use Rattle.control.specs.Control.{cursorOn}
+use Rattle.pixel.specs.Memory.{pixelShown}
+use Rattle.pixel.specs.Cursor.{cursorCode, over}
+use Rattle.pixel.specs.Sums.{summed}
+use Rattle.pixel.specs.declared.Dot.{Dot}
+use Rattle.pixel.specs.declared.Sums.{Sums}
+use Rattle.picture.specs.Picture.{bytesOf}
+use Rattle.picture.specs.declared.span.Columns.{Columns}
+
+-- dots are painted: their bytes are stored from `at` on, all other bytes stand, and the sums have them added
+pub record Painted (before : List ℕ) (at : ℕ) (s : Sums) (dots : List Dot) (after : List ℕ) (t : Sums) : Type 0 where
+  pub stored : after ≡ sets before at (bytesOf dots)
+  pub added : t ≡ summed s dots
+
+-- what a place shows through a table of 256 colours, without the cursor
+abbrev pub plainColour : ℕ → List ℕ → List ℕ → ℕ → ℕ
+plainColour control table m place = getD table (pixelShown control m place) 0
+
+abbrev pub plainDot : ℕ → List ℕ → List ℕ → ℕ → Dot
+plainDot control table m place = record { colour = plainColour control table m place }
+
+-- the cursor's code at pixel x of line y
+abbrev pub codeOver : ℕ → ℕ → List ℕ → ℕ → ℕ → ℕ
+codeOver control position store x y = cond (cursorOn control) (cursorCode store position x y) 0
+
+-- pixel x of line y, which stands at a place
+unfoldable pub coveredDot : ℕ → ℕ → List ℕ → List ℕ → List ℕ → List ℕ → ℕ → ℕ → ℕ → Dot
+coveredDot control position table store colours m place x y =
+    record { colour = over colours (codeOver control position store x y) (plainColour control table m place) }
+
+-- j pixels on from pixel x of line y, which stands at the place `from`
+unfoldable pub segmentDot : ℕ → ℕ → List ℕ → List ℕ → List ℕ → List ℕ → ℕ → ℕ → ℕ → ℕ → Dot
+segmentDot control position table store colours m from x y j =
+    coveredDot control position table store colours m (from + j) (x + j) y
+
+-- a 12-bit field in two's complement, counted from -2,048
+abbrev pub biased : ℕ → ℕ
+biased field = (field + 2048) % 4096
+
+-- of `count` pixels from pixel x of line y on, none before `left` and none from `right` on lies under the cursor
+pub record Clipped (control position x y count : ℕ) (c : Columns) : Type 0 where
+  pub order : c .left ≤ c .right
+  pub end : c .right ≤ count
+  pub before : (store : List ℕ) (j : ℕ) → j < c .left → codeOver control position store (x + j) y ≡ 0
+  pub after : (store : List ℕ) (j : ℕ) → c .right ≤ j → j < count → codeOver control position store (x + j) y ≡ 0

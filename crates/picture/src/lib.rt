@@ -1,0 +1,87 @@
+// A whole picture (01, "Refusal numbers", 20 to 22; "Rows and pixels"): a frame drawn at once, as its ticks draw it.
+mod rows;
+mod span;
+mod whole;
+
+pub use whole::Pictured;
+pub use whole::draw_machine;
+ghost use mathlib.Core.Path.{_≡_};
+ghost use Prim.Native.Nat.{_*_};
+ghost use lib.ListN.{length};
+ghost use Rattle.base.specs.Count.{run};
+ghost use Rattle.screen.specs.Totals.{frameVisible};
+ghost use Rattle.generator.specs.Rows.{screen};
+ghost use Rattle.generator.specs.Sound.{Sound};
+ghost use Rattle.frame.specs.Frame.{pixels, dotFor, sumsTo};
+ghost use Rattle.picture.specs.Picture.{bytesOf, refuses22, pictureRefusal, drawnOf, bufferOf};
+ghost use Rattle.picture.specs.Plan.{Ready, planOf};
+use generator::Generator;
+use pixel::Sums;
+use registers::Registers;
+
+// The refusal, or 0, and the generator after the picture.
+pub struct Drawn {
+    pub refusal: u32,
+    pub next: Generator,
+}
+
+// Refusal 22: stopped, or not before the first tick of a frame.
+fn refuses_22(r: Registers, g: Generator) -> bool
+    ensures refusal { λ b. ⌜ b ≡ refuses22 r g ⌝ }
+{
+    let on = control::is_running(r.control);
+    !on | !((g.half.0 == 0) & (g.at.0 == 0))
+}
+
+// The refusal of a picture into `size` bytes, or 0: settled before a byte is written.
+fn refusal_of(r: Registers, g: Generator, memory: &[u8], size: u64) -> u32
+    requires { ⌜ Sound r g ⌝ }
+    ensures refusal { λ n. ⌜ n ≡ pictureRefusal r (now (memory .entry)) g size ⌝ }
+{
+    let early = refuses_22(r, g);
+    if early {
+        return 22;
+    }
+    let p = rows::plan_of(r);
+    if size == 12 * p.visible {
+        let far = rows::refuses_20(p, memory);
+        return base::first(far, 20, 0);
+    }
+    21
+}
+
+// The picture of a frame that nothing refuses, and its sums. Forced blank: black, nothing read, nothing added.
+fn draw_frame(r: Registers, p: rows::Plan, memory: &[u8], buffer: &mut [u8]) -> Sums
+    requires { ⌜ Ready r ⌝ }
+    requires { ⌜ p ≡ planOf r ⌝ }
+    requires { ⌜ length (now buffer) ≡ 3 * pixels r ⌝ }
+    ensures sums { λ s. ⌜ s ≡ sumsTo r (now (memory .entry)) (frameVisible (screen r)) ⌝ }
+    ensures bytes { λ _. ⌜ now (buffer .exit) ≡ bytesOf (run (dotFor r (now (memory .entry))) 0 (pixels r)) ⌝ }
+{
+    let palette = r.palette;
+    let store = r.store;
+    let colours = r.colours;
+    let blank = control::is_forced_blank(r.control);
+    if blank {
+        span::blacken(buffer);
+        return Sums::none();
+    }
+    let table = pixel::masked_palette(&palette, r.mask);
+    rows::draw_rows(buffer, memory, p, &table, &store, &colours)
+}
+
+// The picture of the frame that begins with the next tick, and the generator after it. A refusal leaves buffer and generator as they were.
+pub fn draw(r: Registers, g: Generator, memory: &[u8], buffer: &mut [u8]) -> Drawn
+    requires { ⌜ Sound r g ⌝ }
+    ensures whole { λ d. ⌜ d ≡ drawnOf r (now (memory .entry)) g (length (now (buffer .entry))) ⌝ }
+    ensures bytes { λ _. ⌜ now (buffer .exit) ≡ bufferOf r (now (memory .entry)) g (now (buffer .entry)) ⌝ }
+{
+    let refusal = refusal_of(r, g, memory, buffer.len() as u64);
+    if refusal == 0 {
+        let p = rows::plan_of(r);
+        let sums = draw_frame(r, p, memory, buffer);
+        let next = rows::end_of(p, sums);
+        return Drawn { refusal: 0, next };
+    }
+    Drawn { refusal, next: g }
+}

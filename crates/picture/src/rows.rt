@@ -1,0 +1,192 @@
+// The rows of a frame (01, "Rows and pixels"): its numbers, its segments, refusal 20, the picture segment by segment, and the end.
+ghost use mathlib.Core.Path.{_≡_};
+ghost use Prim.Native.Nat.{_+_, _*_, _^_, _≤_, _<_, min};
+ghost use lib.ListN.{length};
+ghost use Rattle.base.specs.Count.{run, some};
+ghost use Rattle.control.specs.Control.{pixelBits};
+ghost use Rattle.pixel.specs.Memory.{endsBeyond};
+ghost use Rattle.pixel.specs.Sums.{none};
+ghost use Rattle.picture.specs.Span.{Painted};
+ghost use Rattle.picture.specs.Plan.{Ready, planOf, Sized, addressIn, placeIn, dotIn, refusesIn, endIn, Cut};
+use generator::Generator;
+use pixel::Sums;
+use registers::Registers;
+use screen::HalfLines;
+use screen::ScreenUnits;
+
+// The numbers of a frame: ticks of a line's Display, displayed lines, visible ticks, R, the first address and the step to the next.
+pub struct Plan {
+    pub display: u64,
+    pub lines: u64,
+    pub visible: u64,
+    pub meminit: u64,
+    pub row: u64,
+    pub top: u64,
+    pub increment: u64,
+    pub control: u32,
+    pub position: u32,
+}
+
+// The part of a row within one line: its first tick's column and line, its ticks, and the place of its first pixel.
+pub struct Segment {
+    pub column: u64,
+    pub line: u64,
+    pub ticks: u64,
+    pub from: u64,
+}
+
+pub fn plan_of(r: Registers) -> Plan
+    requires { ⌜ Ready r ⌝ }
+    ensures plan { λ p. ⌜ p ≡ planOf r ⌝ }
+{
+    let params = r.params;
+    let s = screen::screen_of(params);
+    let display = s.display.0;
+    let lines = s.vdisplay.0 / 2;
+    let increment = control::address_increment(r.control);
+    Plan {
+        display,
+        lines,
+        visible: display * lines,
+        meminit: s.meminit.0,
+        row: s.meminit.0 + s.transferdelay.0,
+        top: r.top as u64,
+        increment: increment as u64,
+        control: r.control,
+        position: r.position,
+    }
+}
+
+// The address held at visible tick v.
+fn address_at(p: Plan, v: u64) -> u64
+    requires { ⌜ Sized p ⌝ }
+    requires { ⌜ v < p .visible ⌝ }
+    ensures address { λ a. ⌜ a ≡ addressIn p v ⌝ }
+    ensures bound { λ a. ⌜ a < 2 ^ 24 ⌝ }
+{
+    (p.top + v / p.row * p.increment) % 0x1000000
+}
+
+// The place of the first pixel of visible tick v.
+fn first_place(p: Plan, v: u64) -> u64
+    requires { ⌜ Sized p ⌝ }
+    requires { ⌜ v < p .visible ⌝ }
+    ensures place { λ n. ⌜ n ≡ placeIn p (4 * v) ⌝ }
+    ensures bound { λ n. ⌜ n < 2 ^ 60 ⌝ }
+{
+    let address = address_at(p, v);
+    (address / p.increment * p.row + v % p.row) * 4
+}
+
+fn least(a: u64, b: u64) -> u64
+    ensures least { λ n. ⌜ n ≡ min a b ⌝ }
+{
+    if a <= b { a } else { b }
+}
+
+// The segment from visible tick v on.
+fn segment_at(p: Plan, v: u64) -> Segment
+    requires { ⌜ Sized p ⌝ }
+    requires { ⌜ v < p .visible ⌝ }
+    ensures segment { λ g. ⌜ Cut p v g ⌝ }
+{
+    let column = v % p.display;
+    let line = v / p.display;
+    let ticks = least(p.display - column, p.row - v % p.row);
+    let from = first_place(p, v);
+    Segment {
+        column,
+        line,
+        ticks,
+        from,
+    }
+}
+
+// Some place of the picture ends beyond the memory: in each segment the last one does where any does.
+fn is_beyond(p: Plan, memory: &[u8]) -> bool
+    requires { ⌜ Sized p ⌝ }
+    ensures test { λ b. ⌜ b ≡ some (λ i. endsBeyond (pixelBits (p .control)) (now (memory .entry)) (placeIn p i)) (4 * p .visible) ⌝ }
+{
+    let mut beyond = false;
+    let mut v: u64 = 0;
+    while v < p.visible {
+        let g = segment_at(p, v);
+        let far = pixel::ends_beyond(p.control, memory, g.from + 4 * g.ticks - 1);
+        beyond = beyond | far;
+        v += g.ticks;
+    }
+    beyond
+}
+
+// Refusal 20 of the whole picture; with blanking forced or transfers off nothing is read.
+pub fn refuses_20(p: Plan, memory: &[u8]) -> bool
+    requires { ⌜ Sized p ⌝ }
+    ensures refusal { λ b. ⌜ b ≡ refusesIn p (now (memory .entry)) ⌝ }
+{
+    let blank = control::is_forced_blank(p.control);
+    let on = control::is_transferring(p.control);
+    if !blank & on {
+        return is_beyond(p, memory);
+    }
+    false
+}
+
+// The picture, segment by segment.
+pub fn draw_rows(
+    buffer: &mut [u8],
+    memory: &[u8],
+    p: Plan,
+    table: &[u32; 256],
+    store: &[u16; 512],
+    colours: &[u32; 3],
+) -> Sums
+    requires { ⌜ Sized p ⌝ }
+    requires { ⌜ length (now buffer) ≡ 12 * p .visible ⌝ }
+    ensures painted { λ s. ⌜ Painted (now (buffer .entry)) 0 none (run (dotIn p (now (table .entry)) (now (store .entry)) (now (colours .entry)) (now (memory .entry))) 0 (4 * p .visible)) (now (buffer .exit)) s ⌝ }
+{
+    let control = p.control;
+    let position = p.position;
+    let mut t = Sums::none();
+    let mut v: u64 = 0;
+    while v < p.visible {
+        let g = segment_at(p, v);
+        let at = (12 * v) as usize;
+        let x = (4 * g.column) as u32;
+        let y = g.line as u32;
+        t = crate::span::draw_segment(
+            buffer,
+            at,
+            memory,
+            g.from,
+            4 * g.ticks,
+            control,
+            table,
+            store,
+            colours,
+            position,
+            x,
+            y,
+            t,
+        );
+        v += g.ticks;
+    }
+    t
+}
+
+// The generator at the frame's end, with these sums.
+pub fn end_of(p: Plan, sums: Sums) -> Generator
+    requires { ⌜ Sized p ⌝ }
+    ensures end { λ g. ⌜ g ≡ endIn p sums ⌝ }
+{
+    let last = p.visible - 1;
+    let on = control::is_transferring(p.control);
+    let held = address_at(p, last);
+    Generator {
+        half: HalfLines(0),
+        at: ScreenUnits(0),
+        seen: ScreenUnits(0),
+        held: held as u32,
+        asked: on & (p.meminit <= last % p.row),
+        sums,
+    }
+}
