@@ -1,11 +1,11 @@
 -- The picture that the code draws is the frame's, and so the ticks'. Assumes nothing.
 use Prim.Native.Nat.{ℕ, zero, suc, _+_, _*_, _/_, _%_, _^_, _≤_, _<_}
 use mathlib.Core.Bool.{Bool, true, false, not, cond, _&&_, _||_, true≢false}
-use mathlib.Core.List.{List, [], _∷_}
+use mathlib.Core.List.{List}
 use mathlib.Core.Path.{_≡_, refl, sym, ap, _∙_}
 use native.Mathlib.Nat.{pow-suc}
 use native.Mathlib.Omega.{arith}
-use borrow.Author.Tests.{eqb-true, eq-eqb, ne-eqb}
+use borrow.Author.Tests.{eqb-true, ne-eqb}
 use lib.Dec.{eqb, leb, leb→le}
 use lib.ListN.{length, replicate}
 use lib.Pow.{pow-mono}
@@ -15,26 +15,23 @@ use Rattle.base.proofs.Table.{entry}
 use Rattle.control.specs.Control.{running, forcedBlank, transferring, field, depth, pixelBits, increments, increment}
 use Rattle.control.proofs.Laws.{increment-positive}
 use Rattle.screen.specs.Totals.{frameTicks, frameVisible}
-use Rattle.screen.specs.Parameters.{rowLength}
 use Rattle.registers.specs.declared.Registers.{Registers}
 use Rattle.pixel.specs.Memory.{bitsAt, pixelShown}
 use Rattle.pixel.specs.Colour.{maskedPalette}
 use Rattle.pixel.specs.Dot.{codeShown, dotAt, black}
 use Rattle.pixel.specs.Cursor.{over}
-use Rattle.pixel.specs.Sums.{none, summed}
-use Rattle.pixel.specs.declared.Dot.{Dot}
+use Rattle.pixel.specs.Sums.{none}
 use Rattle.pixel.specs.declared.Sums.{Sums}
 use Rattle.pixel.proofs.Laws.{masked-palette-entry}
 use Rattle.generator.specs.Rows.{screen, place, asks}
 use Rattle.generator.specs.Tick.{dotOf, after}
 use Rattle.generator.specs.Sound.{Sound}
 use Rattle.generator.specs.declared.Generator.{Generator}
-use Rattle.frame.specs.Frame.{AtStart, drawn, refusedWithin, rowAddress, addressAt, placeAt, dotFor, pixels, pictureRefuses20, sumsTo, frameEnd, Whole}
+use Rattle.frame.specs.Frame.{refusedWithin, rowAddress, addressAt, placeAt, dotFor, pixels, pictureRefuses20, sumsTo, frameEnd, Whole}
 use Rattle.frame.proofs.Whole.{whole}
-use Rattle.picture.specs.Picture.{bytesOf, refuses22, refuses21, pictureRefusal, drawnOf, bufferOf}
+use Rattle.picture.specs.Picture.{bytesOf, refuses22, pictureRefusal, drawnOf, bufferOf}
 use Rattle.picture.specs.Span.{Painted, coveredDot}
 use Rattle.picture.specs.Plan.{Ready, planOf, Sized, addressIn, placeIn, dotIn, refusesIn, endIn}
-use Rattle.picture.specs.declared.Drawn.{Drawn}
 use Rattle.picture.specs.declared.rows.Plan.{Plan}
 use Rattle.picture.proofs.Spans.{painted-whole}
 
@@ -150,21 +147,16 @@ module _ (r : Registers) (g : Generator) (sound : Sound r g) (begins : refuses22
   refused-link : (m : List ℕ) (p : Plan) → p ≡ planOf r → refusedWithin r m g (frameTicks (screen r)) ≡ refusesIn p m
   refused-link m p e = ticks m .refusal ∙ rw e (sym (refuses-link r m))
 
--- the refusal, in each case
+-- the refusal: 22, and the later two
 module _ (r : Registers) (m : List ℕ) (g : Generator) (size : ℕ) (sound : Sound r g) (early : Bool) (ee : early ≡ refuses22 r g) where
   pub refusal-22 : early ≡ true → 22 ≡ pictureRefusal r m g size
   unfolding pictureRefusal
   refusal-22 t = simp (sym ee ∙ t)
 
-  module _ (f : early ≡ false) (p : Plan) (ep : p ≡ planOf r) where
-    pub refusal-21 : (size ≡ 12 * p .visible → ⊥) → 21 ≡ pictureRefusal r m g size
-    unfolding pictureRefusal
-    refusal-21 n = simp (sym ee ∙ f, ne-eqb size (3 * pixels r) (λ e. n (e ∙ sym (size-link r m p ep))))
-
-    pub refusal-20 : size ≡ 12 * p .visible → (far : Bool) → far ≡ refusesIn p m → (n : ℕ) → n ≡ cond far 20 0 → n ≡ pictureRefusal r m g size
-    unfolding pictureRefusal
-    refusal-20 s far ef n en =
-        simp (sym ee ∙ f, eq-eqb size (3 * pixels r) (s ∙ size-link r m p ep), refused-link r g sound (sym ee ∙ f) m p ep) (en ∙ rw ef)
+  pub refusal-later : early ≡ false → (p : Plan) → p ≡ planOf r → (far : Bool) → far ≡ refusesIn p m → (later n : ℕ) → later ≡ cond far 20 0 → n ≡ cond (not (eqb size (12 * p .visible))) 21 later → n ≡ pictureRefusal r m g size
+  unfolding pictureRefusal
+  refusal-later f p ep far ef later n el en =
+      simp (sym ee ∙ f, refused-link r g sound (sym ee ∙ f) m p ep) (en ∙ rw (el, ef, size-link r m p ep))
 
 -- no refusal: what that says
 record Free (r : Registers) (m : List ℕ) (g : Generator) (size : ℕ) : Type 0 where

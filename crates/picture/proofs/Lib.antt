@@ -1,4 +1,5 @@
--- Laws of a whole picture.
+-- Laws of a whole picture: for callers, and of its own proofs.
+pub mod Laws
 pub mod Spans
 pub mod Clips
 pub mod Segments

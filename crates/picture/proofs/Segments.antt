@@ -3,8 +3,10 @@ use Prim.Native.Nat.{ℕ, zero, suc, _+_, _-_, _*_, _/_, _%_, _^_, _≤_, _<_, m
 use mathlib.Core.Bool.{Bool, true, false, not, _&&_, _||_, true≢false}
 use mathlib.Core.List.{List}
 use mathlib.Core.Path.{_≡_, refl, sym, ap, _∙_}
-use native.Mathlib.Nat.{mul-le-mul, mul-le-mul-right, mul-le-mul-left, mul-pos, div-le-self, div-lt-iff-lt-mul, div-eq-of-lt-le, div-add-mod', mod-lt, zero-add, add-zero, add-suc, mul-comm}
+use native.Mathlib.Nat.{mul-le-mul, mul-le-mul-right, mul-pos, div-le-self, div-lt-iff-lt-mul, div-eq-of-lt-le, div-add-mod', mod-lt, zero-add, add-zero, add-suc, mul-comm}
 use native.Mathlib.Omega.{arith}
+use mir.Val.{Fits}
+use mir.Syntax.{w64}
 use Rattle.base.specs.Count.{some, run}
 use Rattle.base.proofs.Run.{run-same}
 use Rattle.control.specs.Control.{forcedBlank, transferring, pixelBits}
@@ -13,7 +15,7 @@ use Rattle.pixel.specs.declared.Dot.{Dot}
 use Rattle.pixel.specs.declared.Sums.{Sums}
 use Rattle.pixel.proofs.Laws.{ends-beyond-later}
 use Rattle.generator.proofs.Bounds.{place-in}
-use Rattle.picture.specs.Span.{Painted, coveredDot, segmentDot}
+use Rattle.picture.specs.Span.{Painted, segmentDot}
 use Rattle.picture.specs.Plan.{Sized, addressIn, placeIn, dotIn, refusesIn, Cut}
 use Rattle.picture.specs.declared.rows.Plan.{Plan}
 use Rattle.picture.specs.declared.rows.Segment.{Segment}
@@ -34,8 +36,14 @@ module _ (p : Plan) (ok : Sized p) where
   visible-most = rw (ok .visible) (mul-le-mul (ok .display-most) (ok .lines-most))
 
   module _ (v : ℕ) (q : v < p .visible) where
-    pub rows-most : v / p .row * p .increment ≤ 0xFFFFFF * 0xFFFFFF * 1024
-    rows-most = mul-le-mul {n₁ = v / p .row} {n₂ = 0xFFFFFF * 0xFFFFFF} (omega (arith, div-le-self v (p .row), visible-most)) (ok .increment-most)
+    rows-most : (d : ℕ) → v / d * p .increment ≤ 0xFFFFFF * 0xFFFFFF * 1024
+    rows-most d = mul-le-mul {n₁ = v / d} {n₂ = 0xFFFFFF * 0xFFFFFF} (omega (arith, div-le-self v d, visible-most)) (ok .increment-most)
+
+    pub fits-rows : (d : ℕ) → Fits w64 (v / d * p .increment)
+    fits-rows d = omega (arith, rows-most d)
+
+    pub fits-address : (d : ℕ) → Fits w64 (p .top + v / d * p .increment)
+    fits-address d = omega (arith, rows-most d, ok .top)
 
     pub unit-most : (address : ℕ) → address < 2 ^ 24 → address / p .increment * p .row + v % p .row < 2 ^ 58
     unit-most address h = place-in address (p .increment) (p .row) v (omega arith) (ok .row) (omega (arith, ok .row-most))

@@ -1,7 +1,7 @@
 -- Painting one stretch of dots after another is painting both. Assumes nothing.
 use Prim.Native.Nat.{ℕ, suc, _+_, _-_, _*_, _≤_, _<_}
 use mathlib.Core.List.{List, [], _∷_, _++_, append-nil}
-use mathlib.Core.Path.{_≡_, refl, sym, ap, _∙_}
+use mathlib.Core.Path.{_≡_, refl, ap, _∙_}
 use native.Mathlib.Nat.{add-zero, zero-add, add-suc, suc-add, add-assoc}
 use native.Mathlib.Omega.{arith}
 use lib.ListN.{length, set}
@@ -9,7 +9,6 @@ use lib.Seq.{sets, sets-eq, length-sets, drop-length}
 use Rattle.base.specs.Count.{run}
 use Rattle.base.proofs.Run.{run-length, run-append, run-same}
 use Rattle.pixel.specs.Colour.{red, green, blue}
-use Rattle.pixel.specs.Cursor.{over}
 use Rattle.pixel.specs.Sums.{summed}
 use Rattle.pixel.specs.declared.Dot.{Dot}
 use Rattle.pixel.specs.declared.Sums.{Sums}

@@ -43,11 +43,9 @@ fn refusal_of(r: Registers, g: Generator, memory: &[u8], size: u64) -> u32
         return 22;
     }
     let p = rows::plan_of(r);
-    if size == 12 * p.visible {
-        let far = rows::refuses_20(p, memory);
-        return base::first(far, 20, 0);
-    }
-    21
+    let wrong = size != 12 * p.visible;
+    let far = rows::refuses_20(p, memory);
+    base::first(wrong, 21, base::first(far, 20, 0))
 }
 
 // The picture of a frame that nothing refuses, and its sums. Forced blank: black, nothing read, nothing added.

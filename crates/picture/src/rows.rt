@@ -1,6 +1,6 @@
 // The rows of a frame (01, "Rows and pixels"): its numbers, its segments, refusal 20, the picture segment by segment, and the end.
 ghost use mathlib.Core.Path.{_≡_};
-ghost use Prim.Native.Nat.{_+_, _*_, _^_, _≤_, _<_, min};
+ghost use Prim.Native.Nat.{_+_, _*_, _^_, _<_, min};
 ghost use lib.ListN.{length};
 ghost use Rattle.base.specs.Count.{run, some};
 ghost use Rattle.control.specs.Control.{pixelBits};
@@ -142,7 +142,10 @@ pub fn draw_rows(
 ) -> Sums
     requires { ⌜ Sized p ⌝ }
     requires { ⌜ length (now buffer) ≡ 12 * p .visible ⌝ }
-    ensures painted { λ s. ⌜ Painted (now (buffer .entry)) 0 none (run (dotIn p (now (table .entry)) (now (store .entry)) (now (colours .entry)) (now (memory .entry))) 0 (4 * p .visible)) (now (buffer .exit)) s ⌝ }
+    ensures painted { λ s. ⌜
+        Painted (now (buffer .entry)) 0 none
+        (run (dotIn p (now (table .entry)) (now (store .entry)) (now (colours .entry)) (now (memory .entry))) 0 (4 * p .visible))
+        (now (buffer .exit)) s ⌝ }
 {
     let control = p.control;
     let position = p.position;

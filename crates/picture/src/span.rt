@@ -21,9 +21,12 @@ fn put(buffer: &mut [u8], k: usize, colour: u32)
     requires { ⌜ k + 3 ≤ length (now buffer) ⌝ }
     ensures bytes { λ _. ⌜ now (buffer .exit) ≡ sets (now (buffer .entry)) k (red colour ∷ green colour ∷ blue colour ∷ []) ⌝ }
 {
-    buffer[k] = pixel::red_byte(colour);
-    buffer[k + 1] = pixel::green_byte(colour);
-    buffer[k + 2] = pixel::blue_byte(colour);
+    let red = pixel::red_byte(colour);
+    let green = pixel::green_byte(colour);
+    let blue = pixel::blue_byte(colour);
+    buffer[k] = red;
+    buffer[k + 1] = green;
+    buffer[k + 2] = blue;
 }
 
 // One pixel drawn from k on.
@@ -55,7 +58,10 @@ fn draw_plain(
     sums: Sums,
 ) -> Sums
     requires { ⌜ (at + 3 * count ≤ length (now buffer)) × (from + count < 2 ^ 62) ⌝ }
-    ensures painted { λ s. ⌜ Painted (now (buffer .entry)) at sums (run (plainDot control (now (table .entry)) (now (memory .entry))) from count) (now (buffer .exit)) s ⌝ }
+    ensures painted { λ s. ⌜
+        Painted (now (buffer .entry)) at sums
+        (run (plainDot control (now (table .entry)) (now (memory .entry))) from count)
+        (now (buffer .exit)) s ⌝ }
 {
     let mut t = sums;
     let mut i: u64 = 0;
@@ -85,7 +91,10 @@ fn draw_under(
     sums: Sums,
 ) -> Sums
     requires { ⌜ (at + 3 * count ≤ length (now buffer)) × (from + count < 2 ^ 62) × (x + count < 2 ^ 32) ⌝ }
-    ensures painted { λ s. ⌜ Painted (now (buffer .entry)) at sums (run (segmentDot control position (now (table .entry)) (now (store .entry)) (now (colours .entry)) (now (memory .entry)) from x y) 0 count) (now (buffer .exit)) s ⌝ }
+    ensures painted { λ s. ⌜
+        Painted (now (buffer .entry)) at sums
+        (run (segmentDot control position (now (table .entry)) (now (store .entry)) (now (colours .entry)) (now (memory .entry)) from x y) 0 count)
+        (now (buffer .exit)) s ⌝ }
 {
     let on = control::is_cursor_on(control);
     let mut t = sums;
@@ -157,7 +166,10 @@ pub fn draw_segment(
     sums: Sums,
 ) -> Sums
     requires { ⌜ (at + 3 * count ≤ length (now buffer)) × (from + count < 2 ^ 62) × (x + count < 2 ^ 32) ⌝ }
-    ensures painted { λ s. ⌜ Painted (now (buffer .entry)) at sums (run (segmentDot control position (now (table .entry)) (now (store .entry)) (now (colours .entry)) (now (memory .entry)) from x y) 0 count) (now (buffer .exit)) s ⌝ }
+    ensures painted { λ s. ⌜
+        Painted (now (buffer .entry)) at sums
+        (run (segmentDot control position (now (table .entry)) (now (store .entry)) (now (colours .entry)) (now (memory .entry)) from x y) 0 count)
+        (now (buffer .exit)) s ⌝ }
 {
     let c = clip(control, position, x, y, count);
     let left = c.left;

@@ -5,15 +5,12 @@ ghost use lib.ListN.{getD};
 ghost use Rattle.control.specs.Control.{pixelBits};
 ghost use Rattle.pixel.specs.Memory.{endsBeyond, pixelShown};
 
-// Pixels in a byte, by depth: 1, 2, 4 and 8 bits.
-const PER_BYTE: [u64; 4] = [8, 4, 2, 1];
-
-// Pixels in a byte.
+// Pixels in a byte: a power of two, so that the compiler divides by a shift.
 fn per_byte(control: u32) -> u64
     ensures whole { λ r. ⌜ r * pixelBits control ≡ 8 ⌝ }
 {
-    let depth = control::depth_code(control) as usize;
-    PER_BYTE[depth]
+    let depth = control::depth_code(control);
+    1u64 << (3 - depth)
 }
 
 // A byte of the memory; past its end 0.
@@ -45,6 +42,10 @@ pub fn pixel_shown(control: u32, memory: &[u8], place: u64) -> u8
     if on {
         let per = per_byte(control);
         let byte = byte_at(memory, place / per);
+        // a loop over places is then made twice, once without the shifts
+        if per == 1 {
+            return byte;
+        }
         picked(byte, (place % per) as u32, control::depth_code(control))
     } else {
         0

@@ -1,4 +1,4 @@
--- `picture::refusal_of` meets its contract: 22, 21, 20, each from its own law. Assumes nothing.
+-- `picture::refusal_of` meets its contract: 22, or the later two in their order. Assumes nothing.
 use mathlib.Core.Bool.{false}
 use mathlib.Core.Path.{_≡_, sym, _∙_}
 use native.Mathlib.Omega.{arith}
@@ -6,7 +6,7 @@ use borrow.Author.Needs.{needs}
 use Rattle.picture.specs.Picture.{refuses22}
 use Rattle.picture.specs.Plan.{Sized}
 use Rattle.picture.proofs.Segments.{visible-most}
-use Rattle.picture.proofs.Closed.{ready, plan-sized, refusal-22, refusal-21, refusal-20}
+use Rattle.picture.proofs.Closed.{ready, plan-sized, refusal-22, refusal-later}
 use Rattle.picture.proofs.refusal_of.Statement.{statement}
 use Rattle.picture.proofs.refusal_of.Tie as tie
 
@@ -26,15 +26,8 @@ returns-2 c =
     let p = c .before .before .before .before in
     let early = p .before in
     let start = early .before .before .before in
-    refusal-20 (start .args .r) (start .args .memory .now) (start .args .g) (start .args .size) (start .pre) _ (early .before .refuses-22 .ensures) (early .if1 .left) _ (p .plan-of .ensures)
-    (c .before .before .if2 .taken) _ (c .before .refuses-20 .ensures) _ (c .first .ensures)
-
-returns-3 : tie.Need-returns-3
-returns-3 c =
-    let p = c .before .before in
-    let early = p .before in
-    let start = early .before .before .before in
-    refusal-21 (start .args .r) (start .args .memory .now) (start .args .g) (start .args .size) (start .pre) _ (early .before .refuses-22 .ensures) (early .if1 .left) _ (p .plan-of .ensures) (c .if2 .left)
+    refusal-later (start .args .r) (start .args .memory .now) (start .args .g) (start .args .size) (start .pre) _ (early .before .refuses-22 .ensures) (early .if1 .left) _ (p .plan-of .ensures)
+    _ (c .before .before .refuses-20 .ensures) _ _ (c .before .first .ensures) (c .first2 .ensures)
 
 pub refusal-of-spec : {M : Type 1} → statement M
 refusal-of-spec =
@@ -44,7 +37,7 @@ refusal-of-spec =
     returns
     (λ c κs. let start = c .before .before .before in ready (start .args .r) (start .args .g) (start .pre) (begins c))
     (λ c. omega (arith, visible-most _ (plan (c .before))))
-    (λ c κs. plan (c .before .before))
+    (λ c κs. plan (c .before))
     (λ c κs. search needs)
-    returns-2
-    returns-3)
+    (λ c κs. search needs)
+    returns-2)

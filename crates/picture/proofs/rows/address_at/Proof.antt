@@ -3,7 +3,7 @@ use mathlib.Core.Path.{refl}
 use native.Mathlib.Omega.{arith}
 use borrow.Author.Needs.{needs}
 use Rattle.picture.specs.Plan.{addressIn}
-use Rattle.picture.proofs.Segments.{rows-most}
+use Rattle.picture.proofs.Segments.{fits-rows, fits-address}
 use Rattle.picture.proofs.rows.address_at.Statement.{statement}
 use Rattle.picture.proofs.rows.address_at.Tie as tie
 
@@ -13,6 +13,6 @@ address-at-spec =
     tie.close
     (tie.spec
     (λ c. search needs)
-    (λ c. let s = c .before .before in omega (arith, rows-most (s .args .p) (s .pre .0) (s .args .v) (s .pre .1)))
-    (λ c. let s = c .before .before .before in omega (arith, rows-most (s .args .p) (s .pre .0) (s .args .v) (s .pre .1), s .pre .0 .top))
+    (λ c. let s = c .before .before in fits-rows (s .args .p) (s .pre .0) (s .args .v) (s .pre .1) _)
+    (λ c. let s = c .before .before .before in fits-address (s .args .p) (s .pre .0) (s .args .v) (s .pre .1) _)
     (λ c. (refl, omega arith)))

@@ -7,7 +7,7 @@ use Rattle.base.specs.Count.{some}
 use Rattle.control.specs.Control.{pixelBits}
 use Rattle.pixel.specs.Memory.{endsBeyond}
 use Rattle.picture.specs.Plan.{placeIn}
-use Rattle.picture.proofs.Segments.{visible-most, beyond-more}
+use Rattle.picture.proofs.Segments.{beyond-more}
 use Rattle.picture.proofs.rows.is_beyond.Statement.{statement}
 use Rattle.picture.proofs.rows.is_beyond.Tie as tie
 

@@ -1,8 +1,8 @@
--- `pixel::memory::pixel_shown` meets its contract: the pixel is the one of that number in its byte. Assumes nothing.
+-- `pixel::memory::pixel_shown` meets its contract: the pixel is the one of that number in its byte, or the whole byte. Assumes nothing.
 use native.Mathlib.Omega.{arith}
 use mir.Facts.{fits-lt, fits-lit}
 use Rattle.pixel.proofs.Bytes.{per-positive, number-small}
-use Rattle.pixel.proofs.Cases.{shown-on, shown-off}
+use Rattle.pixel.proofs.Cases.{shown-on, shown-byte, shown-off}
 use borrow.Author.Needs.{needs}
 use Rattle.pixel.proofs.memory.pixel_shown.Statement.{statement}
 use Rattle.pixel.proofs.memory.pixel_shown.Tie as tie
@@ -15,9 +15,13 @@ pixel-shown-spec =
     (λ c κs. search needs)
     (λ c. per-positive _ _ (c .per-byte .ensures))
     (λ c κs. search needs)
-    (λ c. per-positive _ _ (c .before .per-byte .ensures))
-    (λ c. fits-lt (number-small _ _ (c .before .per-byte .ensures) _) (fits-lit tt))
+    (λ c.
+    let start = c .before .before .before .before .before .before in
+    shown-byte (start .args .control) (start .args .memory .now) (start .args .place) _ (c .before .before .before .before .is-transferring .ensures) (c .before .before .before .if1 .taken)
+    _ _ (c .before .before .per-byte .ensures) (c .before .byte-at .ensures) (c .if2 .taken) (omega arith))
+    (λ c. per-positive _ _ (c .before .before .per-byte .ensures))
+    (λ c. fits-lt (number-small _ _ (c .before .before .per-byte .ensures) _) (fits-lit tt))
     (λ c κs. search needs)
-    (λ c κs. (number-small _ _ (c .before .before .per-byte .ensures) _, omega arith))
+    (λ c κs. (number-small _ _ (c .before .before .before .per-byte .ensures) _, omega arith))
     (λ c. search shown-on)
     (λ c. search shown-off))
