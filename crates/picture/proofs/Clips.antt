@@ -12,6 +12,7 @@ use Rattle.control.specs.Control.{field, cursorOn}
 use Rattle.pixel.specs.Cursor.{signed12, within, cursorCode}
 use Rattle.pixel.proofs.Cases.{code-beside, code-above}
 use Rattle.picture.specs.Span.{codeOver, biased, Clipped}
+use Rattle.picture.specs.declared.span.Stretch.{Stretch}
 
 -- outside the 64 from a place on, all counted from -2,048
 abbrev Outside : ℕ → ℕ → Type 0
@@ -49,27 +50,27 @@ module _ (control position : ℕ) (store : List ℕ) (x y : ℕ) where
       let e : field 0 12 position ≡ position % 0x1000 = omega arith in
       none (code-above store position x y _ refl (outside (field 0 12 position) y (omega arith) (rw e o)) .0)
 
-module _ (control position x y count : ℕ) (on : Bool) (eo : on ≡ cursorOn control) (first top : ℕ) (ef : first ≡ biased (position / 0x1000 % 0x1000)) (et : top ≡ biased (position % 0x1000)) where
-  pub clip-columns : (left right : ℕ) → left ≡ min (first - (x + 2048)) count → right ≡ min (first + 64 - (x + 2048)) count → Clipped control position x y count (record { left = left; right = right })
+module _ (control position : ℕ) (s : Stretch) (on : Bool) (eo : on ≡ cursorOn control) (first top : ℕ) (ef : first ≡ biased (position / 0x1000 % 0x1000)) (et : top ≡ biased (position % 0x1000)) where
+  pub clip-columns : (left right : ℕ) → left ≡ min (first - (s .x + 2048)) (s .count) → right ≡ min (first + 64 - (s .x + 2048)) (s .count) → Clipped control position s (record { left = left; right = right })
   clip-columns left right el er =
       record {
         order = omega arith;
         end = omega arith;
-        before = λ store j h. beside control position store (x + j) y (rw (← ef) (inl (omega arith)));
-        after = λ store j h l. beside control position store (x + j) y (rw (← ef) (inr (omega arith)));
+        before = λ store j h. beside control position store (s .x + j) (s .y) (rw (← ef) (inl (omega arith)));
+        after = λ store j h l. beside control position store (s .x + j) (s .y) (rw (← ef) (inr (omega arith)));
       }
 
-  pub clip-nothing : ((on && leb top (y + 2048)) && ltb (y + 2048) (top + 64)) ≡ false → Clipped control position x y count (record { left = 0; right = 0 })
+  pub clip-nothing : ((on && leb top (s .y + 2048)) && ltb (s .y + 2048) (top + 64)) ≡ false → Clipped control position s (record { left = 0; right = 0 })
   clip-nothing n =
       record {
         order = omega arith;
         end = omega arith;
         before = λ store j h. absurd (omega arith);
-        after = λ store j h l. go store j on eo (leb top (y + 2048)) refl (ltb (y + 2048) (top + 64)) refl n;
+        after = λ store j h l. go store j on eo (leb top (s .y + 2048)) refl (ltb (s .y + 2048) (top + 64)) refl n;
       }
     where
-      go : (store : List ℕ) (j : ℕ) (a : Bool) → a ≡ cursorOn control → (b : Bool) → leb top (y + 2048) ≡ b → (c : Bool) → ltb (y + 2048) (top + 64) ≡ c → ((a && b) && c) ≡ false → codeOver control position store (x + j) y ≡ 0
-      go store j false ea b eb c ec n = off control position store (x + j) y (sym ea)
-      go store j true ea false eb c ec n = above control position store (x + j) y (rw (← et) (inl (leb-false _ _ eb)))
-      go store j true ea true eb false ec n = above control position store (x + j) y (rw (← et) (inr (ltb-false _ _ ec)))
+      go : (store : List ℕ) (j : ℕ) (a : Bool) → a ≡ cursorOn control → (b : Bool) → leb top (s .y + 2048) ≡ b → (c : Bool) → ltb (s .y + 2048) (top + 64) ≡ c → ((a && b) && c) ≡ false → codeOver control position store (s .x + j) (s .y) ≡ 0
+      go store j false ea b eb c ec n = off control position store (s .x + j) (s .y) (sym ea)
+      go store j true ea false eb c ec n = above control position store (s .x + j) (s .y) (rw (← et) (inl (leb-false _ _ eb)))
+      go store j true ea true eb false ec n = above control position store (s .x + j) (s .y) (rw (← et) (inr (ltb-false _ _ ec)))
       go store j true ea true eb true ec n = absurd (let z : _≡_ {A = ℕ} 0 1 = cc in omega arith)

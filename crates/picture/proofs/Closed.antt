@@ -30,7 +30,7 @@ use Rattle.generator.specs.declared.Generator.{Generator}
 use Rattle.frame.specs.Frame.{refusedWithin, rowAddress, addressAt, placeAt, dotFor, pixels, pictureRefuses20, sumsTo, frameEnd, Whole}
 use Rattle.frame.proofs.Whole.{whole}
 use Rattle.picture.specs.Picture.{bytesOf, refuses22, pictureRefusal, drawnOf, bufferOf}
-use Rattle.picture.specs.Span.{Painted, coveredDot}
+use Rattle.picture.specs.Span.{Painted, dotThrough}
 use Rattle.picture.specs.Plan.{Ready, planOf, Sized, addressIn, placeIn, dotIn, refusesIn, endIn}
 use Rattle.picture.specs.declared.rows.Plan.{Plan}
 use Rattle.picture.proofs.Spans.{painted-whole}
@@ -84,7 +84,7 @@ module _ (r : Registers) (m : List ℕ) where
 
   -- the mask applied to the palette once is the mask applied to each pixel
   dot-same : (i : ℕ) → dotIn (planOf r) (maskedPalette (r .palette) (r .mask)) (r .store) (r .colours) m i ≡ dotOf r m (addressAt r (i / 4)) (i / 4) (i % 4)
-  unfolding dotIn coveredDot planOf placeIn addressIn dotOf dotAt place rowAddress
+  unfolding dotIn dotThrough planOf placeIn addressIn dotOf dotAt place rowAddress
   dot-same i =
       ap (λ (below : ℕ). record { colour = over (r .colours) (codeShown r (r .position) (4 * (i / 4 % screen r .display .0) + i % 4) (i / 4 / screen r .display .0)) below })
       (masked-palette-entry (r .palette) (r .mask) _ (pixel-small (r .control) m (place r (addressAt r (i / 4)) (i / 4) (i % 4))))

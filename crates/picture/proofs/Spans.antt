@@ -14,8 +14,9 @@ use Rattle.pixel.specs.declared.Dot.{Dot}
 use Rattle.pixel.specs.declared.Sums.{Sums}
 use Rattle.pixel.proofs.Laws.{summed-join}
 use Rattle.picture.specs.Picture.{bytesOf}
-use Rattle.picture.specs.Span.{Painted, plainDot, codeOver, coveredDot, segmentDot, Clipped}
+use Rattle.picture.specs.Span.{Painted, plainDot, codeOver, dotThrough, coveredDot, Small, partOf, Clipped}
 use Rattle.picture.specs.declared.span.Columns.{Columns}
+use Rattle.picture.specs.declared.span.Stretch.{Stretch}
 
 -- stores in a row, and then further ones right behind, are the stores of both
 sets-append : (l : List ℕ) (i : ℕ) (xs ys : List ℕ) → sets l i (xs ++ ys) ≡ sets (sets l i xs) (i + length xs) ys
@@ -67,37 +68,46 @@ painted-whole {b} f n p e =
     let all : length bytes ≡ length b = omega (arith, bytes-length (run f 0 n), run-length f 0 n) in
     p .stored ∙ sets-eq bytes b 0 (omega arith) ∙ simp (zero-add, all, drop-length) (append-nil bytes)
 
-module _ (control position : ℕ) (table store colours m : List ℕ) (from x y : ℕ) where
+-- a part of a stretch that fits
+pub part-fits : (s : Stretch) → Small s → (size : ℕ) → s .at + 3 * s .count ≤ size → (a b : ℕ) → a ≤ b → b ≤ s .count → (part : Stretch) → part ≡ partOf s a b → Small part × (part .at + 3 * part .count ≤ size)
+part-fits s k size h a b l w part e = rw e (record { bytes = omega (arith, k .bytes); places = omega (arith, k .places); columns = omega (arith, k .columns) }, omega arith)
+
+module _ (control position : ℕ) (table store colours m : List ℕ) (s : Stretch) where
   abbrev dot : ℕ → Dot
-  dot = segmentDot control position table store colours m from x y
+  dot = coveredDot control position table store colours m s
 
   -- where the cursor's code is 0, what is below shows
-  plain-dot : (j : ℕ) → codeOver control position store (x + j) y ≡ 0 → dot j ≡ plainDot control table m (from + j)
-  unfolding segmentDot coveredDot
+  plain-dot : (j : ℕ) → codeOver control position store (s .x + j) (s .y) ≡ 0 → dot j ≡ plainDot control table m (s .from + j)
+  unfolding coveredDot dotThrough
   plain-dot j e = rw e
 
   -- n pixels from a on that the cursor leaves alone
-  pub plain-run : (a n : ℕ) → ((j : ℕ) → a ≤ j → j < a + n → codeOver control position store (x + j) y ≡ 0) → run dot a n ≡ run (plainDot control table m) (from + a) n
-  plain-run a n h = run-same dot (plainDot control table m) a (from + a) n (λ j l. plain-dot (a + j) (h (a + j) (omega arith) (omega arith)) ∙ rw add-assoc)
+  plain-run : (a n : ℕ) → ((j : ℕ) → a ≤ j → j < a + n → codeOver control position store (s .x + j) (s .y) ≡ 0) → run dot a n ≡ run (plainDot control table m) (s .from + a) n
+  plain-run a n h = run-same dot (plainDot control table m) a (s .from + a) n (λ j l. plain-dot (a + j) (h (a + j) (omega arith) (omega arith)) ∙ rw add-assoc)
 
-  -- n pixels from a on are a segment of their own
-  pub later-run : (a n : ℕ) → run dot a n ≡ run (segmentDot control position table store colours m (from + a) (x + a) y) 0 n
-  unfolding segmentDot
-  later-run a n = run-same dot (segmentDot control position table store colours m (from + a) (x + a) y) a 0 n (λ j l. rw (zero-add, add-assoc, add-assoc))
+  -- the pixels from a on are a stretch of their own
+  part-run : (a b : ℕ) → run dot a (b - a) ≡ run (coveredDot control position table store colours m (partOf s a b)) 0 (b - a)
+  unfolding coveredDot
+  part-run a b = run-same dot (coveredDot control position table store colours m (partOf s a b)) a 0 (b - a) (λ j l. rw (zero-add, add-assoc, add-assoc))
 
-  -- a segment in three parts
-  pub painted-segment : (count : ℕ) (c : Columns) → Clipped control position x y count c → {b : List ℕ} {at : ℕ} {s : Sums} {b₁ : List ℕ} {s₁ : Sums} {k₁ : ℕ} {b₂ : List ℕ} {s₂ : Sums} {k₂ : ℕ} {b₃ : List ℕ} {s₃ : Sums} →
-      Painted b at s (run (plainDot control table m) from (c .left)) b₁ s₁ → k₁ ≡ at + 3 * c .left →
-      Painted b₁ k₁ s₁ (run (segmentDot control position table store colours m (from + c .left) (x + c .left) y) 0 (c .right - c .left)) b₂ s₂ → k₂ ≡ at + 3 * c .right →
-      Painted b₂ k₂ s₂ (run (plainDot control table m) (from + c .right) (count - c .right)) b₃ s₃ → Painted b at s (run dot 0 count) b₃ s₃
-  painted-segment count c k {b} {at} {s} {b₁} {s₁} {k₁} {b₂} {s₂} {k₂} {b₃} {s₃} p e q f r =
+  -- a stretch in three parts
+  pub painted-stretch : (c : Columns) → Clipped control position s c → (left under right : Stretch) → left ≡ partOf s 0 (c .left) → under ≡ partOf s (c .left) (c .right) → right ≡ partOf s (c .right) (s .count) →
+      {b : List ℕ} {t : Sums} {b₁ : List ℕ} {t₁ : Sums} {b₂ : List ℕ} {t₂ : Sums} {b₃ : List ℕ} {t₃ : Sums} →
+      Painted b (left .at) t (run (plainDot control table m) (left .from) (left .count)) b₁ t₁ →
+      Painted b₁ (under .at) t₁ (run (coveredDot control position table store colours m under) 0 (under .count)) b₂ t₂ →
+      Painted b₂ (right .at) t₂ (run (plainDot control table m) (right .from) (right .count)) b₃ t₃ → Painted b (s .at) t (run dot 0 (s .count)) b₃ t₃
+  painted-stretch c k left under right el eu er {b} {t} {b₁} {t₁} {b₂} {t₂} {b₃} {t₃} p q r =
       let l = c .left in
       let h = c .right in
-      let first : Painted b at s (run dot 0 l) b₁ s₁ = rw (plain-run 0 l (λ j _ i. k .before store j (omega arith)), add-zero) p in
-      let amid : Painted b₁ k₁ s₁ (run dot (0 + l) (h - l)) b₂ s₂ = rw (zero-add, later-run l (h - l)) q in
-      let two : Painted b at s (run dot 0 (l + (h - l))) b₂ s₂ = painted-on dot 0 l (h - l) first e amid in
+      let p′ : Painted b (s .at + 3 * 0) t (run (plainDot control table m) (s .from + 0) (l - 0)) b₁ t₁ = rw el at p in
+      let q′ : Painted b₁ (s .at + 3 * l) t₁ (run (coveredDot control position table store colours m (partOf s l h)) 0 (h - l)) b₂ t₂ = rw eu at q in
+      let r′ : Painted b₂ (s .at + 3 * h) t₂ (run (plainDot control table m) (s .from + h) (s .count - h)) b₃ t₃ = rw er at r in
+      let z : s .at + 3 * 0 ≡ s .at = omega arith in
+      let m₀ : l - 0 ≡ l = omega arith in
+      let first : Painted b (s .at) t (run dot 0 l) b₁ t₁ = rw (plain-run 0 l (λ j _ i. k .before store j (omega arith))) (rw (z, m₀) at p′) in
+      let amid : Painted b₁ (s .at + 3 * l) t₁ (run dot (0 + l) (h - l)) b₂ t₂ = rw (zero-add, part-run l h) q′ in
       let n : l + (h - l) ≡ h = omega (arith, k .order) in
-      let last : Painted b₂ k₂ s₂ (run dot (0 + h) (count - h)) b₃ s₃ = rw (zero-add, plain-run h (count - h) (λ j g i. k .after store j g (omega (arith, k .end)))) r in
-      let all : Painted b at s (run dot 0 (h + (count - h))) b₃ s₃ = painted-on dot 0 h (count - h) (rw n at two) f last in
-      let w : h + (count - h) ≡ count = omega (arith, k .end) in
-      rw w at all
+      let two : Painted b (s .at) t (run dot 0 h) b₂ t₂ = rw n at (painted-on dot 0 l (h - l) first refl amid) in
+      let last : Painted b₂ (s .at + 3 * h) t₂ (run dot (0 + h) (s .count - h)) b₃ t₃ = rw (zero-add, plain-run h (s .count - h) (λ j g i. k .after store j g (omega (arith, k .end)))) r′ in
+      let w : h + (s .count - h) ≡ s .count = omega (arith, k .end) in
+      rw w at (painted-on dot 0 h (s .count - h) two refl last)

@@ -15,9 +15,10 @@ use Rattle.pixel.specs.declared.Dot.{Dot}
 use Rattle.pixel.specs.declared.Sums.{Sums}
 use Rattle.generator.specs.Rows.{screen}
 use Rattle.generator.specs.declared.Generator.{Generator}
-use Rattle.picture.specs.Span.{coveredDot}
+use Rattle.picture.specs.Span.{dotThrough}
 use Rattle.picture.specs.declared.rows.Plan.{Plan}
 use Rattle.picture.specs.declared.rows.Segment.{Segment}
+use Rattle.picture.specs.declared.span.Stretch.{Stretch}
 
 -- the part of the one condition that a picture uses
 pub record Ready (r : Registers) : Type 0 where
@@ -61,7 +62,7 @@ placeIn p i = (addressIn p (i / 4) / p .increment * p .row + i / 4 % p .row) * 4
 -- its colour, through a table of 256 and under the cursor
 unfoldable pub dotIn : Plan → List ℕ → List ℕ → List ℕ → List ℕ → ℕ → Dot
 dotIn p table store colours m i =
-    coveredDot (p .control) (p .position) table store colours m (placeIn p i) (4 * (i / 4 % p .display) + i % 4) (i / 4 / p .display)
+    dotThrough (p .control) (p .position) table store colours m (placeIn p i) (4 * (i / 4 % p .display) + i % 4) (i / 4 / p .display)
 
 unfoldable pub refusesIn : Plan → List ℕ → Bool
 refusesIn p m =
@@ -91,3 +92,7 @@ pub record Cut (p : Plan) (v : ℕ) (g : Segment) : Type 0 where
   pub column-most : g .column + g .ticks ≤ 0xFFFFFF
   pub line-most : g .line < 0xFFFFFF
   pub from-most : g .from < 2 ^ 60
+
+-- its pixels
+abbrev pub stretchOf : ℕ → Segment → Stretch
+stretchOf v g = record { at = 12 * v; from = g .from; x = 4 * g .column; y = g .line; count = 4 * g .ticks }

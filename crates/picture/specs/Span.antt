@@ -1,5 +1,5 @@
 -- Stretches of pixels as the code draws them: a colour through a table of 256, the cursor over it, bytes and sums. Assumes nothing.
-use Prim.Native.Nat.{ℕ, _+_, _%_, _≤_, _<_}
+use Prim.Native.Nat.{ℕ, _+_, _-_, _*_, _%_, _^_, _≤_, _<_}
 use mathlib.Core.Bool.{cond}
 use mathlib.Core.List.{List}
 use mathlib.Core.Path.{_≡_}
@@ -13,6 +13,7 @@ use Rattle.pixel.specs.declared.Dot.{Dot}
 use Rattle.pixel.specs.declared.Sums.{Sums}
 use Rattle.picture.specs.Picture.{bytesOf}
 use Rattle.picture.specs.declared.span.Columns.{Columns}
+use Rattle.picture.specs.declared.span.Stretch.{Stretch}
 
 -- dots are painted: their bytes are stored from `at` on, all other bytes stand, and the sums have them added
 pub record Painted (before : List ℕ) (at : ℕ) (s : Sums) (dots : List Dot) (after : List ℕ) (t : Sums) : Type 0 where
@@ -31,22 +32,32 @@ abbrev pub codeOver : ℕ → ℕ → List ℕ → ℕ → ℕ → ℕ
 codeOver control position store x y = cond (cursorOn control) (cursorCode store position x y) 0
 
 -- pixel x of line y, which stands at a place
-unfoldable pub coveredDot : ℕ → ℕ → List ℕ → List ℕ → List ℕ → List ℕ → ℕ → ℕ → ℕ → Dot
-coveredDot control position table store colours m place x y =
+unfoldable pub dotThrough : ℕ → ℕ → List ℕ → List ℕ → List ℕ → List ℕ → ℕ → ℕ → ℕ → Dot
+dotThrough control position table store colours m place x y =
     record { colour = over colours (codeOver control position store x y) (plainColour control table m place) }
 
--- j pixels on from pixel x of line y, which stands at the place `from`
-unfoldable pub segmentDot : ℕ → ℕ → List ℕ → List ℕ → List ℕ → List ℕ → ℕ → ℕ → ℕ → ℕ → Dot
-segmentDot control position table store colours m from x y j =
-    coveredDot control position table store colours m (from + j) (x + j) y
+-- pixel j of a stretch
+unfoldable pub coveredDot : ℕ → ℕ → List ℕ → List ℕ → List ℕ → List ℕ → Stretch → ℕ → Dot
+coveredDot control position table store colours m s j =
+    dotThrough control position table store colours m (s .from + j) (s .x + j) (s .y)
+
+-- what a stretch adds up to fits
+pub record Small (s : Stretch) : Type 0 where
+  pub bytes : s .at + 3 * s .count < 2 ^ 62
+  pub places : s .from + s .count < 2 ^ 62
+  pub columns : s .x + s .count < 2 ^ 32
+
+-- its pixels from number a up to, not including, number b
+abbrev pub partOf : Stretch → ℕ → ℕ → Stretch
+partOf s a b = record { at = s .at + 3 * a; from = s .from + a; x = s .x + a; y = s .y; count = b - a }
 
 -- a 12-bit field in two's complement, counted from -2,048
 abbrev pub biased : ℕ → ℕ
 biased field = (field + 2048) % 4096
 
--- of `count` pixels from pixel x of line y on, none before `left` and none from `right` on lies under the cursor
-pub record Clipped (control position x y count : ℕ) (c : Columns) : Type 0 where
+-- of a stretch, no pixel before `left` and none from `right` on lies under the cursor
+pub record Clipped (control position : ℕ) (s : Stretch) (c : Columns) : Type 0 where
   pub order : c .left ≤ c .right
-  pub end : c .right ≤ count
-  pub before : (store : List ℕ) (j : ℕ) → j < c .left → codeOver control position store (x + j) y ≡ 0
-  pub after : (store : List ℕ) (j : ℕ) → c .right ≤ j → j < count → codeOver control position store (x + j) y ≡ 0
+  pub end : c .right ≤ s .count
+  pub before : (store : List ℕ) (j : ℕ) → j < c .left → codeOver control position store (s .x + j) (s .y) ≡ 0
+  pub after : (store : List ℕ) (j : ℕ) → c .right ≤ j → j < s .count → codeOver control position store (s .x + j) (s .y) ≡ 0

@@ -1,13 +1,15 @@
 // The rows of a frame (01, "Rows and pixels"): its numbers, its segments, refusal 20, the picture segment by segment, and the end.
 ghost use mathlib.Core.Path.{_≡_};
-ghost use Prim.Native.Nat.{_+_, _*_, _^_, _<_, min};
+ghost use Prim.Native.Nat.{_+_, _*_, _^_, _≤_, _<_, min};
 ghost use lib.ListN.{length};
 ghost use Rattle.base.specs.Count.{run, some};
 ghost use Rattle.control.specs.Control.{pixelBits};
 ghost use Rattle.pixel.specs.Memory.{endsBeyond};
 ghost use Rattle.pixel.specs.Sums.{none};
 ghost use Rattle.picture.specs.Span.{Painted};
-ghost use Rattle.picture.specs.Plan.{Ready, planOf, Sized, addressIn, placeIn, dotIn, refusesIn, endIn, Cut};
+ghost use Rattle.picture.specs.Plan.{Ready, planOf, Sized, addressIn, placeIn, dotIn, refusesIn, endIn, Cut, stretchOf};
+use crate::span;
+use crate::span::Stretch;
 use generator::Generator;
 use pixel::Sums;
 use registers::Registers;
@@ -131,6 +133,20 @@ pub fn refuses_20(p: Plan, memory: &[u8]) -> bool
     false
 }
 
+// The pixels of a segment that begins with visible tick v.
+fn stretch_of(v: u64, g: Segment) -> Stretch
+    requires { ⌜ (v < 2 ^ 50) × (g .column + g .ticks ≤ 0xFFFFFF) × (g .line < 0xFFFFFF) ⌝ }
+    ensures stretch { λ s. ⌜ s ≡ stretchOf v g ⌝ }
+{
+    Stretch {
+        at: (12 * v) as usize,
+        from: g.from,
+        x: (4 * g.column) as u32,
+        y: g.line as u32,
+        count: 4 * g.ticks,
+    }
+}
+
 // The picture, segment by segment.
 pub fn draw_rows(
     buffer: &mut [u8],
@@ -153,22 +169,16 @@ pub fn draw_rows(
     let mut v: u64 = 0;
     while v < p.visible {
         let g = segment_at(p, v);
-        let at = (12 * v) as usize;
-        let x = (4 * g.column) as u32;
-        let y = g.line as u32;
-        t = crate::span::draw_segment(
+        let s = stretch_of(v, g);
+        t = span::draw_stretch(
             buffer,
-            at,
             memory,
-            g.from,
-            4 * g.ticks,
+            s,
             control,
+            position,
             table,
             store,
             colours,
-            position,
-            x,
-            y,
             t,
         );
         v += g.ticks;

@@ -1,16 +1,25 @@
 // A stretch of pixels drawn (01, "Rows and pixels"): bytes into the buffer, the cursor over a segment, the checksums beside.
 ghost use mathlib.Core.Path.{_≡_};
 ghost use mathlib.Core.List.{[], _∷_};
-ghost use Prim.Native.Nat.{_+_, _-_, _*_, _%_, _^_, _≤_, _<_, min};
+ghost use Prim.Native.Nat.{_+_, _-_, _*_, _%_, _≤_, _<_, min};
 ghost use lib.ListN.{length, replicate};
 ghost use lib.Seq.{sets};
 ghost use Rattle.base.specs.Count.{run};
 ghost use Rattle.pixel.specs.Colour.{red, green, blue};
-ghost use Rattle.picture.specs.Span.{Painted, plainColour, plainDot, segmentDot, biased, Clipped};
+ghost use Rattle.picture.specs.Span.{Painted, plainColour, plainDot, coveredDot, biased, Small, partOf, Clipped};
 use pixel::Dot;
 use pixel::Sums;
 
-// Of a segment, the pixels from `left` up to, not including, `right` may lie under the cursor.
+// Pixels in a row: where the first is stored, its place in the memory, its column and its line, and how many there are.
+pub struct Stretch {
+    pub at: usize,
+    pub from: u64,
+    pub x: u32,
+    pub y: u32,
+    pub count: u64,
+}
+
+// Of a stretch, the pixels from `left` up to, not including, `right` may lie under the cursor.
 pub struct Columns {
     pub left: u64,
     pub right: u64,
@@ -46,26 +55,27 @@ fn look(memory: &[u8], place: u64, control: u32, table: &[u32; 256]) -> u32
     table[pixel]
 }
 
-// `count` pixels from the place `from` on, which the cursor leaves alone, drawn from `at` on.
+// A stretch that the cursor leaves alone.
 fn draw_plain(
     buffer: &mut [u8],
-    at: usize,
     memory: &[u8],
-    from: u64,
-    count: u64,
+    s: Stretch,
     control: u32,
     table: &[u32; 256],
     sums: Sums,
 ) -> Sums
-    requires { ⌜ (at + 3 * count ≤ length (now buffer)) × (from + count < 2 ^ 62) ⌝ }
-    ensures painted { λ s. ⌜
-        Painted (now (buffer .entry)) at sums
-        (run (plainDot control (now (table .entry)) (now (memory .entry))) from count)
-        (now (buffer .exit)) s ⌝ }
+    requires { ⌜ Small s ⌝ }
+    requires { ⌜ s .at + 3 * s .count ≤ length (now buffer) ⌝ }
+    ensures painted { λ t. ⌜
+        Painted (now (buffer .entry)) (s .at) sums
+        (run (plainDot control (now (table .entry)) (now (memory .entry))) (s .from) (s .count))
+        (now (buffer .exit)) t ⌝ }
 {
+    let from = s.from;
+    let count = s.count;
     let mut t = sums;
     let mut i: u64 = 0;
-    let mut k = at;
+    let mut k = s.at;
     while i < count {
         t = paint(buffer, k, look(memory, from + i, control, table), t);
         i += 1;
@@ -74,32 +84,33 @@ fn draw_plain(
     t
 }
 
-// The same of a segment, the cursor over it: `from` is the place of pixel x of line y.
+// A stretch with the cursor over it.
 fn draw_under(
     buffer: &mut [u8],
-    at: usize,
     memory: &[u8],
-    from: u64,
-    count: u64,
+    s: Stretch,
     control: u32,
+    position: u32,
     table: &[u32; 256],
     store: &[u16; 512],
     colours: &[u32; 3],
-    position: u32,
-    x: u32,
-    y: u32,
     sums: Sums,
 ) -> Sums
-    requires { ⌜ (at + 3 * count ≤ length (now buffer)) × (from + count < 2 ^ 62) × (x + count < 2 ^ 32) ⌝ }
-    ensures painted { λ s. ⌜
-        Painted (now (buffer .entry)) at sums
-        (run (segmentDot control position (now (table .entry)) (now (store .entry)) (now (colours .entry)) (now (memory .entry)) from x y) 0 count)
-        (now (buffer .exit)) s ⌝ }
+    requires { ⌜ Small s ⌝ }
+    requires { ⌜ s .at + 3 * s .count ≤ length (now buffer) ⌝ }
+    ensures painted { λ t. ⌜
+        Painted (now (buffer .entry)) (s .at) sums
+        (run (coveredDot control position (now (table .entry)) (now (store .entry)) (now (colours .entry)) (now (memory .entry)) s) 0 (s .count))
+        (now (buffer .exit)) t ⌝ }
 {
+    let from = s.from;
+    let x = s.x;
+    let y = s.y;
+    let count = s.count;
     let on = control::is_cursor_on(control);
     let mut t = sums;
     let mut i: u64 = 0;
-    let mut k = at;
+    let mut k = s.at;
     while i < count {
         let code = base::first(on, pixel::cursor_code(store, position, x + i as u32, y), 0);
         let colour = pixel::cover(colours, code, look(memory, from + i, control, table));
@@ -131,15 +142,16 @@ fn edge(a: u64, b: u64, most: u64) -> u64
     most
 }
 
-// The part of a segment that may lie under the cursor.
-fn clip(control: u32, position: u32, x: u32, y: u32, count: u64) -> Columns
-    ensures clipped { λ c. ⌜ Clipped control position x y count c ⌝ }
+// The part of a stretch that may lie under the cursor.
+fn clip(control: u32, position: u32, s: Stretch) -> Columns
+    ensures clipped { λ c. ⌜ Clipped control position s c ⌝ }
 {
+    let count = s.count;
     let on = control::is_cursor_on(control);
     let first = biased(position / 0x1000 % 0x1000);
     let top = biased(position % 0x1000);
-    let column = x as u64 + 2048;
-    let line = y as u64 + 2048;
+    let column = s.x as u64 + 2048;
+    let line = s.y as u64 + 2048;
     if on & (top <= line) & (line < top + 64) {
         return Columns {
             left: edge(first, column, count),
@@ -149,59 +161,57 @@ fn clip(control: u32, position: u32, x: u32, y: u32, count: u64) -> Columns
     Columns { left: 0, right: 0 }
 }
 
-// A segment: what is left of the cursor, what is under it and what is right of it.
-pub fn draw_segment(
+// The pixels of a stretch from number a up to, not including, number b.
+fn part(s: Stretch, a: u64, b: u64) -> Stretch
+    requires { ⌜ Small s ⌝ }
+    requires { ⌜ (a ≤ b) × (b ≤ s .count) ⌝ }
+    ensures part { λ t. ⌜ t ≡ partOf s a b ⌝ }
+{
+    Stretch {
+        at: s.at + 3 * a as usize,
+        from: s.from + a,
+        x: s.x + a as u32,
+        y: s.y,
+        count: b - a,
+    }
+}
+
+// A stretch: what is left of the cursor, what is under it and what is right of it.
+pub fn draw_stretch(
     buffer: &mut [u8],
-    at: usize,
     memory: &[u8],
-    from: u64,
-    count: u64,
+    s: Stretch,
     control: u32,
+    position: u32,
     table: &[u32; 256],
     store: &[u16; 512],
     colours: &[u32; 3],
-    position: u32,
-    x: u32,
-    y: u32,
     sums: Sums,
 ) -> Sums
-    requires { ⌜ (at + 3 * count ≤ length (now buffer)) × (from + count < 2 ^ 62) × (x + count < 2 ^ 32) ⌝ }
-    ensures painted { λ s. ⌜
-        Painted (now (buffer .entry)) at sums
-        (run (segmentDot control position (now (table .entry)) (now (store .entry)) (now (colours .entry)) (now (memory .entry)) from x y) 0 count)
-        (now (buffer .exit)) s ⌝ }
+    requires { ⌜ Small s ⌝ }
+    requires { ⌜ s .at + 3 * s .count ≤ length (now buffer) ⌝ }
+    ensures painted { λ t. ⌜
+        Painted (now (buffer .entry)) (s .at) sums
+        (run (coveredDot control position (now (table .entry)) (now (store .entry)) (now (colours .entry)) (now (memory .entry)) s) 0 (s .count))
+        (now (buffer .exit)) t ⌝ }
 {
-    let c = clip(control, position, x, y, count);
-    let left = c.left;
-    let right = c.right;
-    let a = draw_plain(buffer, at, memory, from, left, control, table, sums);
-    let under = at + 3 * left as usize;
+    let c = clip(control, position, s);
+    let left = part(s, 0, c.left);
+    let under = part(s, c.left, c.right);
+    let right = part(s, c.right, s.count);
+    let a = draw_plain(buffer, memory, left, control, table, sums);
     let b = draw_under(
         buffer,
-        under,
         memory,
-        from + left,
-        right - left,
+        under,
         control,
+        position,
         table,
         store,
         colours,
-        position,
-        x + left as u32,
-        y,
         a,
     );
-    let rest = at + 3 * right as usize;
-    draw_plain(
-        buffer,
-        rest,
-        memory,
-        from + right,
-        count - right,
-        control,
-        table,
-        b,
-    )
+    draw_plain(buffer, memory, right, control, table, b)
 }
 
 // Every byte 0.

@@ -14,20 +14,22 @@ clip-spec =
     (λ c. search needs)
     (λ c. search needs)
     (λ c. search needs)
+    (λ c. search needs)
+    (λ c. search needs)
     (λ c κs. search needs)
     (λ c. search needs)
     (λ c κs. search needs)
     (λ c.
-    let on = c .before .before .before .before .before in
+    let on = c .before .before .before .before .before .before .before in
     let a = on .before .args in
-    clip-columns (a .control) (a .position) (a .x) (a .y) (a .count) _ (on .is-cursor-on .ensures) _ _
-    (c .before .before .before .before .biased .ensures)
-    (c .before .before .before .biased2 .ensures)
+    clip-columns (a .control) (a .position) (a .s) _ (on .is-cursor-on .ensures) _ _
+    (c .before .before .before .before .before .before .biased .ensures)
+    (c .before .before .before .before .before .biased2 .ensures)
     _ _ (c .before .edge .ensures) (c .edge2 .ensures))
     (λ c.
-    let on = c .before .before .before in
+    let on = c .before .before .before .before .before in
     let a = on .before .args in
-    clip-nothing (a .control) (a .position) (a .x) (a .y) (a .count) _ (on .is-cursor-on .ensures) _ _
-    (c .before .before .biased .ensures)
-    (c .before .biased2 .ensures)
+    clip-nothing (a .control) (a .position) (a .s) _ (on .is-cursor-on .ensures) _ _
+    (c .before .before .before .before .biased .ensures)
+    (c .before .before .before .biased2 .ensures)
     (c .if1 .left)))

@@ -10,11 +10,11 @@ use Rattle.picture.proofs.span.draw_plain.Statement.{statement}
 use Rattle.picture.proofs.span.draw_plain.Tie as tie
 
 abbrev Inv-loop : tie.InvT-loop
-Inv-loop buffer₀ at memory from count control table t₀ i₀ k₀ buffer t i k =
-    (i ≤ count) × (k ≡ at + 3 * i) × Painted buffer₀ at t₀ (run (plainDot control table memory) from i) buffer t
+Inv-loop buffer₀ memory control table from count t₀ i₀ k₀ buffer t i k =
+    (i ≤ count) × (k ≡ k₀ + 3 * i) × Painted buffer₀ k₀ t₀ (run (plainDot control table memory) from i) buffer t
 
 abbrev μ-loop : tie.MeasureT-loop
-μ-loop buffer₀ at memory from count control table t₀ i₀ k₀ buffer t i k = count - i
+μ-loop buffer₀ memory control table from count t₀ i₀ k₀ buffer t i k = count - i
 
 loop-holds : tie.Need-loop-holds Inv-loop μ-loop
 unfolding run
@@ -27,14 +27,14 @@ loop-again c =
     let a = look .before .before .before .before .before .before .args in (
       omega arith,
       omega arith,
-      painted-more (plainDot (a .control) (a .table .now) (a .memory .now)) (a .from) (now .i) (now .inv .2) (now .inv .1)
+      painted-more (plainDot (a .control) (a .table .now) (a .memory .now)) (a .s .from) (now .i) (now .inv .2) (now .inv .1)
           (rw (look .look .ensures) at (c .before .before .paint .ensures)),
     )
 
 returns : tie.Need-returns Inv-loop μ-loop
 returns c =
     let end = c .before .loop in
-    let e : end .i ≡ c .before .before .before .before .args .count = omega arith in
+    let e : end .i ≡ c .before .before .before .before .args .s .count = omega arith in
     rw e at (end .inv .2)
 
 pub draw-plain-spec : {M : Type 1} → statement M

@@ -6,31 +6,31 @@ use native.Mathlib.Omega.{arith}
 use borrow.Author.Needs.{needs}
 use Rattle.base.specs.Count.{run}
 use Rattle.pixel.specs.declared.Dot.{Dot}
-use Rattle.picture.specs.Span.{Painted, coveredDot, segmentDot}
+use Rattle.picture.specs.Span.{Painted, dotThrough, coveredDot}
 use Rattle.picture.proofs.Spans.{painted-none, painted-more, painted-length}
 use Rattle.picture.proofs.span.draw_under.Statement.{statement}
 use Rattle.picture.proofs.span.draw_under.Tie as tie
 
 abbrev Inv-loop : tie.InvT-loop
-Inv-loop buffer₀ at memory from count control table store colours position x y on t₀ i₀ k₀ buffer t i k =
-    (i ≤ count) × (k ≡ at + 3 * i) × Painted buffer₀ at t₀ (run (segmentDot control position table store colours memory from x y) 0 i) buffer t
+Inv-loop buffer₀ memory control position table store colours from x y count on t₀ i₀ k₀ buffer t i k =
+    (i ≤ count) × (k ≡ k₀ + 3 * i) × Painted buffer₀ k₀ t₀ (run (coveredDot control position table store colours memory (record { at = k₀; from = from; x = x; y = y; count = count })) 0 i) buffer t
 
 abbrev μ-loop : tie.MeasureT-loop
-μ-loop buffer₀ at memory from count control table store colours position x y on t₀ i₀ k₀ buffer t i k = count - i
+μ-loop buffer₀ memory control position table store colours from x y count on t₀ i₀ k₀ buffer t i k = count - i
 
 loop-holds : tie.Need-loop-holds Inv-loop μ-loop
 unfolding run
 loop-holds c = (omega arith, omega arith, painted-none _ _ _)
 
 loop-again : tie.Need-loop-again Inv-loop μ-loop
-unfolding segmentDot coveredDot
+unfolding coveredDot dotThrough
 loop-again c =
     let cover = c .before .before .before .before in
     let first = cover .before .before in
     let now = first .before .before .before .loop in
     let on = first .before .before .before .before in
     let a = on .before .before .before .args in
-    let dot = segmentDot (a .control) (a .position) (a .table .now) (a .store .now) (a .colours .now) (a .memory .now) (a .from) (a .x) (a .y) in
+    let dot = coveredDot (a .control) (a .position) (a .table .now) (a .store .now) (a .colours .now) (a .memory .now) (a .s) in
     let e : _≡_ {A = Dot} (record { colour = cover .cover .result }) (dot (0 + now .i)) =
     rw (zero-add, cover .cover .ensures, cover .before .look .ensures, first .first .ensures, first .before .cursor-code .ensures .0, on .is-cursor-on .ensures) in (
       omega arith,
@@ -41,7 +41,7 @@ loop-again c =
 returns : tie.Need-returns Inv-loop μ-loop
 returns c =
     let end = c .before .loop in
-    let e : end .i ≡ c .before .before .before .before .before .args .count = omega arith in
+    let e : end .i ≡ c .before .before .before .before .before .args .s .count = omega arith in
     rw e at (end .inv .2)
 
 pub draw-under-spec : {M : Type 1} → statement M
