@@ -1,0 +1,2 @@
+-- What the measured call answers.
+pub mod Speed

@@ -1,0 +1,42 @@
+#!/bin/sh
+# Measures the proved picture call against plain.rs on this machine, natively: docs/src/plain/run.sh [REPETITIONS]. See docs/SPEED.md.
+# The kit compiles for x86-64. On another processor the module that the kit hands its own clang is kept, given this machine's target and
+# no other change, and compiled by that clang with the kit's own flags.
+set -eu
+cd "$(dirname "$0")/../../.."
+machine=$(uname -m)
+kit=$(cd "$(dirname "$(rt doc)")/.." && pwd -P)
+own=$kit/on/$machine
+tools=$own/toolchain
+out=$PWD/target/speed
+rm -rf "$out"
+mkdir -p "$out/toolchain/bin"
+
+# the kit's toolchain, with a clang that keeps the module it is handed
+ln -s "$tools/lib" "$out/toolchain/lib"
+for tool in ld.lld llvm-ar; do ln -s "$tools/bin/clang" "$out/toolchain/bin/$tool"; done
+printf '#!/bin/sh\nfor w in "$@"; do case $w in *.bc) cp "$w" "%s/module.bc" ;; esac; done\nexec "%s/bin/clang" "$@"\n' "$out" "$tools" >"$out/toolchain/bin/clang"
+chmod +x "$out/toolchain/bin/clang"
+
+deps='base control screen registers pixel generator machine frame picture'
+rt check $deps speed >"$out/check" 2>&1 || { tail "$out/check" >&2; exit 1; }
+set -- "${1:-200}"
+words=''
+for d in $deps; do words="$words --extern $d=target/rlib/$d.rlib"; done
+rattle build --crate-name speed crates/speed/src/lib.rt --crate-type staticlib --toolchain "$out/toolchain" -o "$out/libspeed.a" \
+    --extern "std=$own/rlib/std.rlib" $words -L dependency=target/rlib -L "dependency=$own/rlib" \
+    --antt-project "$kit/logic/antt-project.json" --logic-built "$own/logic-built" >"$out/build" 2>&1 || { tail "$out/build" >&2; exit 1; }
+
+if [ "$machine" != x86_64 ]; then
+    clang=$tools/bin/clang
+    "$clang" --target=x86_64-unknown-linux-gnu -O3 -Xclang -disable-llvm-passes -S -emit-llvm -x ir "$out/module.bc" -o "$out/x86.ll"
+    layout=$(echo 'int x;' | "$clang" --target="$machine-unknown-linux-gnu" -S -emit-llvm -x c - -o - | grep '^target datalayout')
+    sed -e "s|^target datalayout = .*|$layout|" -e "s|^target triple = .*|target triple = \"$machine-unknown-linux-gnu\"|" \
+        -e 's| "target-cpu"="x86-64"||' -e 's| "probe-stack"="inline-asm"||' "$out/x86.ll" >"$out/own.ll"
+    "$clang" --target="$machine-unknown-linux-gnu" -O3 -fPIC -ffunction-sections -fdata-sections -Werror -c -x ir "$out/own.ll" -o "$out/speed.o"
+    rm "$out/libspeed.a"
+    "$out/toolchain/bin/llvm-ar" rc "$out/libspeed.a" "$out/speed.o"
+fi
+rustc --version
+rustc --edition 2021 -O --cfg ours -L "$out" -l static=speed docs/src/plain/plain.rs -o "$out/both"
+"$out/both" "$1"
