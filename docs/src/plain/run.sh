@@ -1,7 +1,7 @@
 #!/bin/sh
 # Measures the proved picture call against plain.rs on this machine, natively: docs/src/plain/run.sh [REPETITIONS]. See docs/SPEED.md.
-# The kit compiles for x86-64. On another processor the module that the kit hands its own clang is kept, given this machine's target and
-# no other change, and compiled by that clang with the flags below.
+# The kit compiles for x86-64. On another processor the module that the kit hands its own clang is kept, given this machine's
+# triple and data layout, freed of two x86-64 attributes, and compiled by that clang; its code is not touched.
 set -eu
 cd "$(dirname "$0")/../../.."
 machine=$(uname -m)
