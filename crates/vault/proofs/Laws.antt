@@ -16,7 +16,7 @@ both true b e = (refl, e)
 both false b e = absurd (true≢false (sym e))
 
 -- lists that match are equal
-match-equal : (a b : List ℕ) → match a b ≡ true → a ≡ b
+pub match-equal : (a b : List ℕ) → match a b ≡ true → a ≡ b
 unfolding match
 match-equal [] [] e = refl
 match-equal [] (y ∷ b) e = absurd (true≢false (sym e))
@@ -28,7 +28,7 @@ match-equal (x ∷ a) (y ∷ b) e =
     cc
 
 -- a list matches itself
-match-self : (a : List ℕ) → match a a ≡ true
+pub match-self : (a : List ℕ) → match a a ≡ true
 unfolding match
 match-self [] = refl
 match-self (x ∷ a) = rw (eq-eqb x x refl) (match-self a)

@@ -1,0 +1,6 @@
+-- Laws of the bench script's rules.
+mod Parting
+mod Digits
+mod Reading
+mod Laying
+mod Running

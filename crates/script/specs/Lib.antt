@@ -1,0 +1,7 @@
+-- The rules of the bench script.
+pub mod Faults
+pub mod Words
+pub mod Numbers
+pub mod Commands
+pub mod Texts
+pub mod Acts
