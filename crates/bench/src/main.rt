@@ -29,7 +29,7 @@ fn picture_room() -> [u8; 3145728] {
 
 // Writes what waits.
 fn written(out: &[u8], waiting: usize) -> usize {
-    io::write_all(1, script::bytes::lent(out, waiting));
+    io::write_all(1, text::bytes::lent(out, waiting));
     0
 }
 
@@ -54,9 +54,9 @@ fn said(d: Desk, waiting: usize) -> Desk
 // `ok`, or `refused N`.
 fn verdict(out: &mut [u8], at: usize, refusal: u32) -> usize {
     if refusal == 0 {
-        return script::text::put(out, at, b"ok\n");
+        return text::put(out, at, b"ok\n");
     }
-    script::says::put_refused(out, at, refusal)
+    acts::says::put_refused(out, at, refusal)
 }
 
 // Bytes in hexadecimal, 32 a line.
@@ -65,8 +65,8 @@ fn rows(out: &mut [u8], at: usize, bytes: &[u8]) -> usize {
     let mut from: usize = 0;
     while from < bytes.len() {
         let left = &bytes[from..];
-        waiting = script::text::put_row(out, spaced(out, waiting), script::bytes::lent(left, 32));
-        from = script::bytes::later(from, 32, bytes.len());
+        waiting = text::put_row(out, spaced(out, waiting), text::bytes::lent(left, 32));
+        from = text::bytes::later(from, 32, bytes.len());
     }
     waiting
 }
@@ -80,16 +80,16 @@ fn ticks(d: Desk, memory: &[u8], out: &mut [u8], count: u32) -> Desk
     let mut at = d.waiting;
     let mut left = count;
     while 0 < left {
-        let next = script::acts::tick(m, memory);
+        let next = acts::tick(m, memory);
         let refusal = next.refusal;
         let signals = next.signals;
         m = next.machine;
         at = spaced(out, at);
         if refusal == 0 {
-            at = script::says::put_tick(out, at, signals);
+            at = acts::says::put_tick(out, at, signals);
             left -= 1;
         } else {
-            at = script::says::put_refused(out, at, refusal);
+            at = acts::says::put_refused(out, at, refusal);
             left = 0;
         }
     }
@@ -107,11 +107,11 @@ fn run(d: Desk, memory: &[u8], out: &mut [u8], count: u32) -> Desk
     ensures sound { λ r. ⌜ Sound (r .machine .regs) (r .machine .generator) ⌝ }
 {
     let m = d.machine;
-    let ran = script::acts::run(m, memory, count);
+    let ran = acts::run(m, memory, count);
     let after = ran.machine;
-    let mut at = script::text::put_count(out, d.waiting, b"ran ", ran.done as u64);
+    let mut at = text::put_count(out, d.waiting, b"ran ", ran.done as u64);
     if ran.refusal != 0 {
-        at = script::says::put_refused(out, at, ran.refusal);
+        at = acts::says::put_refused(out, at, ran.refusal);
     }
     Desk {
         machine: after,
@@ -127,7 +127,7 @@ fn pictured(d: Desk, memory: &[u8], buffer: &mut [u8], out: &mut [u8]) -> Desk
     ensures sound { λ r. ⌜ Sound (r .machine .regs) (r .machine .generator) ⌝ }
 {
     let before = d.machine;
-    let drawn = script::acts::draw(before, memory, buffer);
+    let drawn = acts::draw(before, memory, buffer);
     let machine = drawn.machine;
     let waiting = shown(buffer, out, d.waiting, drawn.refusal);
     Desk {
@@ -153,7 +153,7 @@ fn drawn(d: Desk, memory: &[u8], picture: &mut [u8], out: &mut [u8], length: u32
     ensures sound { λ r. ⌜ Sound (r .machine .regs) (r .machine .generator) ⌝ }
 {
     let size = length as usize;
-    let lent = script::bytes::lent(memory, d.memory as usize);
+    let lent = text::bytes::lent(memory, d.memory as usize);
     if picture.len() < size {
         return d;
     }
@@ -166,65 +166,65 @@ fn read(m: Machine, out: &mut [u8], at: usize, address: u32) -> usize
 {
     let answer = m.read(address);
     if answer.refusal == 0 {
-        let text = script::text::put_hex(out, at, answer.value);
-        return script::text::put(out, text, b"\n");
+        let text = text::put_hex(out, at, answer.value);
+        return text::put(out, text, b"\n");
     }
-    script::says::put_refused(out, at, answer.refusal)
+    acts::says::put_refused(out, at, answer.refusal)
 }
 
 // `nine`.
 fn nine(m: Machine, out: &mut [u8], at: usize) -> usize
     requires { ⌜ Sound (m .regs) (m .generator) ⌝ }
 {
-    let sums = script::acts::nine(m);
+    let sums = acts::nine(m);
     let words = sums.words;
     if sums.refusal == 0 {
-        let low = script::text::put_hex(out, at, words[0]);
-        let middle = script::says::put_colour(out, low, words[1]);
-        let high = script::says::put_colour(out, middle, words[2]);
-        return script::text::put(out, high, b"\n");
+        let low = text::put_hex(out, at, words[0]);
+        let middle = acts::says::put_colour(out, low, words[1]);
+        let high = acts::says::put_colour(out, middle, words[2]);
+        return text::put(out, high, b"\n");
     }
-    script::says::put_refused(out, at, sums.refusal)
+    acts::says::put_refused(out, at, sums.refusal)
 }
 
 // `sheet BYTE...`.
 fn sheet(c: Command, out: &mut [u8], at: usize) -> usize {
-    let sheet = script::answers::sheet_of(c);
+    let sheet = answers::sheet_of(c);
     let values = sheet.values;
     if sheet.refusal == 0 {
-        let ok = script::text::put(out, at, b"ok");
-        return script::text::put_values(out, ok, &values);
+        let ok = text::put(out, at, b"ok");
+        return text::put_values(out, ok, &values);
     }
-    script::says::put_refused(out, at, sheet.refusal)
+    acts::says::put_refused(out, at, sheet.refusal)
 }
 
 // `field TAG BYTE...`.
 fn field(c: Command, out: &mut [u8], at: usize) -> usize {
-    let answer = script::answers::field_of(c);
+    let answer = answers::field_of(c);
     if answer.refusal == 0 {
-        return script::text::put_count(out, at, b"", answer.value as u64);
+        return text::put_count(out, at, b"", answer.value as u64);
     }
-    script::says::put_refused(out, at, answer.refusal)
+    acts::says::put_refused(out, at, answer.refusal)
 }
 
 // `store ROOM VALUE x14`.
 fn store(c: Command, out: &mut [u8], at: usize) -> usize {
-    let stored = script::answers::stored_of(c);
+    let stored = answers::stored_of(c);
     let bytes = stored.bytes;
     let room = stored.room;
-    shown(script::bytes::lent(&bytes, room), out, at, stored.refusal)
+    shown(text::bytes::lent(&bytes, room), out, at, stored.refusal)
 }
 
 // `compare BYTE... / BYTE...`.
 fn compare(c: Command, out: &mut [u8], at: usize) -> usize {
-    let comparison = script::answers::comparison_of(c);
+    let comparison = answers::comparison_of(c);
     if comparison.refusal != 0 {
-        return script::says::put_refused(out, at, comparison.refusal);
+        return acts::says::put_refused(out, at, comparison.refusal);
     }
     if comparison.equal {
-        return script::text::put(out, at, b"same\n");
+        return text::put(out, at, b"same\n");
     }
-    script::text::put(out, at, b"different\n")
+    text::put(out, at, b"different\n")
 }
 
 // A command that only asks.
@@ -257,7 +257,7 @@ fn write(d: Desk, out: &mut [u8], address: u32, value: u32) -> Desk
     ensures sound { λ r. ⌜ Sound (r .machine .regs) (r .machine .generator) ⌝ }
 {
     let m = d.machine;
-    let w = script::acts::write(m, address, value);
+    let w = acts::write(m, address, value);
     let machine = w.machine;
     let waiting = verdict(out, d.waiting, w.refusal);
     Desk {
@@ -274,8 +274,8 @@ fn keep(d: Desk, c: Command, memory: &mut [u8], out: &mut [u8]) -> Desk
     ensures sound { λ r. ⌜ Sound (r .machine .regs) (r .machine .generator) ⌝ }
 {
     let machine = d.machine;
-    let lent = script::answers::kept(c, memory, d.memory);
-    let waiting = script::text::put(out, d.waiting, b"ok\n");
+    let lent = answers::kept(c, memory, d.memory);
+    let waiting = text::put(out, d.waiting, b"ok\n");
     Desk {
         machine,
         memory: lent,
@@ -292,7 +292,7 @@ fn timed(d: Desk, c: Command, memory: &[u8], out: &mut [u8]) -> Desk
     let left = c.left;
     let values = left.values;
     let count = base::first(left.count == 0, 1, values[0]);
-    let lent = script::bytes::lent(memory, d.memory as usize);
+    let lent = text::bytes::lent(memory, d.memory as usize);
     if c.name == script::command::RUN {
         return run(d, lent, out, count);
     }
@@ -339,8 +339,8 @@ fn answered(d: Desk, line: &[u8], memory: &mut [u8], picture: &mut [u8], out: &m
     if c.fault == 0 {
         return acted(next, c, memory, picture, out);
     }
-    let error = script::says::put_error(out, next.waiting, next.lines, c.fault);
-    let waiting = script::text::put(out, error, b"\n");
+    let error = acts::says::put_error(out, next.waiting, next.lines, c.fault);
+    let waiting = text::put(out, error, b"\n");
     said(next, waiting)
 }
 
@@ -425,7 +425,7 @@ fn finished(left: Left, line: &[u8], memory: &mut [u8], picture: &mut [u8], out:
 // The whole script. A loop has to end, and nothing says that a script does: it counts from a number that no script uses up.
 fn session(memory: &mut [u8], picture: &mut [u8], out: &mut [u8]) {
     let mut line = [0u8; 1002];
-    let machine = script::acts::begun();
+    let machine = acts::begun();
     let desk = Desk {
         machine,
         memory: 0,

@@ -2,5 +2,3 @@
 mod Parting
 mod Digits
 mod Reading
-mod Laying
-mod Running

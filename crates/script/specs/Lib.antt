@@ -3,5 +3,3 @@ pub mod Faults
 pub mod Words
 pub mod Numbers
 pub mod Commands
-pub mod Texts
-pub mod Acts

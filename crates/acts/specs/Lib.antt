@@ -1,0 +1,2 @@
+-- What the commands of a script do to a machine.
+pub mod Machines

@@ -1,0 +1,120 @@
+// What commands do to a machine: a write, one tick, many ticks, and the checksums.
+ghost use mathlib.Core.Path.{_≡_};
+ghost use Prim.Native.Nat.{_≤_};
+ghost use Rattle.generator.specs.Sound.{Sound};
+ghost use Rattle.machine.specs.Rules.{beginning, written, advanced};
+ghost use Rattle.acts.specs.Machines.{nineOf, ranOf, picturedOf};
+ghost use Rattle.picture.specs.Picture.{bufferOf};
+ghost use lib.ListN.{length};
+
+pub mod says;
+
+use machine::Advanced;
+use machine::Machine;
+use machine::Written;
+
+// The ticks that a `run` has done, its refusal or 0, and the machine after it.
+pub struct Ran {
+    pub done: u32,
+    pub refusal: u32,
+    pub machine: Machine,
+}
+
+// A picture's refusal or 0, and the machine after it.
+pub struct Pictured {
+    pub refusal: u32,
+    pub machine: Machine,
+}
+
+// The refusal of the checksums' reads or 0, and the three words; 0 where refused.
+pub struct Checksums {
+    pub refusal: u32,
+    pub words: [u32; 3],
+}
+
+// The machine that every script begins with.
+pub fn begun() -> Machine
+    ensures machine { λ m. ⌜ m ≡ beginning ⌝ }
+    ensures sound { λ m. ⌜ Sound (m .regs) (m .generator) ⌝ }
+{
+    Machine::beginning()
+}
+
+// A register write.
+pub fn write(m: Machine, address: u32, value: u32) -> Written
+    requires { ⌜ Sound (m .regs) (m .generator) ⌝ }
+    ensures written { λ w. ⌜ w ≡ written m address value ⌝ }
+    ensures sound { λ w. ⌜ Sound (w .machine .regs) (w .machine .generator) ⌝ }
+{
+    m.write(address, value)
+}
+
+// One tick.
+pub fn tick(m: Machine, memory: &[u8]) -> Advanced
+    requires { ⌜ Sound (m .regs) (m .generator) ⌝ }
+    ensures advanced { λ a. ⌜ a ≡ advanced m (now (memory .entry)) ⌝ }
+    ensures sound { λ a. ⌜ Sound (a .machine .regs) (a .machine .generator) ⌝ }
+{
+    m.tick(memory)
+}
+
+// A run of so many ticks, unshown; it ends where a tick is refused.
+pub fn run(m: Machine, memory: &[u8], count: u32) -> Ran
+    requires { ⌜ Sound (m .regs) (m .generator) ⌝ }
+    ensures ran { λ n. ⌜ n ≡ ranOf (now (memory .entry)) m count ⌝ }
+    ensures sound { λ n. ⌜ Sound (n .machine .regs) (n .machine .generator) ⌝ }
+{
+    let mut now = m;
+    let mut done: u32 = 0;
+    while done < count {
+        let next = tick(now, memory);
+        let refusal = next.refusal;
+        now = next.machine;
+        if refusal != 0 {
+            return Ran {
+                done,
+                refusal,
+                machine: now,
+            };
+        }
+        done += 1;
+    }
+    Ran {
+        done,
+        refusal: 0,
+        machine: now,
+    }
+}
+
+// The nine checksum bytes, as three words.
+pub fn nine(m: Machine) -> Checksums
+    requires { ⌜ Sound (m .regs) (m .generator) ⌝ }
+    ensures nine { λ n. ⌜ n ≡ nineOf m ⌝ }
+{
+    let low = m.read(0x0C0);
+    let middle = m.read(0x0C1);
+    let high = m.read(0x0C2);
+    let later = base::first(middle.refusal == 0, high.refusal, middle.refusal);
+    let refusal = base::first(low.refusal == 0, later, low.refusal);
+    Checksums {
+        refusal,
+        words: [low.value, middle.value, high.value],
+    }
+}
+
+// A whole picture into a buffer.
+pub fn draw(m: Machine, memory: &[u8], buffer: &mut [u8]) -> Pictured
+    requires { ⌜ Sound (m .regs) (m .generator) ⌝ }
+    ensures pictured { λ p. ⌜ p ≡ picturedOf m (now (memory .entry)) (length (now (buffer .entry))) ⌝ }
+    ensures bytes { λ _. ⌜ now (buffer .exit) ≡ bufferOf (m .regs) (now (memory .entry)) (m .generator) (now (buffer .entry)) ⌝ }
+    ensures sound { λ p. ⌜ Sound (p .machine .regs) (p .machine .generator) ⌝ }
+{
+    let regs = m.regs;
+    let before = m.generator;
+    let drawn = picture::draw(regs, before, memory, buffer);
+    let generator = drawn.next;
+    Pictured {
+        refusal: drawn.refusal,
+        machine: Machine { regs, generator },
+    }
+}

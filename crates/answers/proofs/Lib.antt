@@ -1,0 +1,2 @@
+-- Laws of the memory that a script lends.
+mod Filling

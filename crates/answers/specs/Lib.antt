@@ -1,0 +1,2 @@
+-- What commands do without the machine.
+pub mod Memory

@@ -1,0 +1,2 @@
+-- Text that programs write.
+pub mod Room
