@@ -134,24 +134,3 @@ pub fn stored_of(c: Command) -> Stored
         bytes,
     }
 }
-
-// The refusal of a command on sheets or checksums, or 0.
-pub fn refusal_of(c: Command) -> u32 {
-    if c.name == script::command::SHEET {
-        let sheet = sheet_of(c);
-        return sheet.refusal;
-    }
-    if c.name == script::command::FIELD {
-        let answer = field_of(c);
-        return answer.refusal;
-    }
-    if c.name == script::command::STORE {
-        let stored = stored_of(c);
-        return stored.refusal;
-    }
-    if c.name == script::command::COMPARE {
-        let comparison = comparison_of(c);
-        return comparison.refusal;
-    }
-    0
-}
