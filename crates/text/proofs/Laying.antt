@@ -1,12 +1,14 @@
 -- Bytes laid into a room, one after the other. Assumes nothing.
 use Prim.Native.Nat.{ℕ, zero, suc, _+_, _-_, _≤_, _<_}
 use mathlib.Core.Bool.{cond, _&&_}
-use mathlib.Core.List.{List}
+use mathlib.Core.List.{List, [], _∷_}
 use mathlib.Core.Path.{_≡_, refl, _∙_}
 use native.Mathlib.Numerals.{add-one}
 use borrow.Author.Tests.{lt-ltb, le-ltb, le-leb, lt-leb}
-use lib.ListN.{length, getD, set, length-set}
-use Rattle.text.specs.Room.{laid, fits, putText, putEnd}
+use lib.ListN.{length, getD, set, drop, length-set, drop-of-length-le}
+use lib.Seq.{drop-cons}
+use Rattle.text.specs.Room.{byteText, decimalText, laid, fits, putText, putEnd, putTexts, putEnds}
+use Rattle.text.specs.Lines.{lineEnd, rowTexts, valuesTexts}
 
 module _ (byte : ℕ → ℕ) (room : List ℕ) (at : ℕ) where
   pub laid-none : room ≡ laid byte room at 0
@@ -35,3 +37,33 @@ module _ (room : List ℕ) (at : ℕ) (text : List ℕ) where
   pub put-whole : at ≤ length room → length text ≤ length room - at → (now : List ℕ) → now ≡ laid (λ i. getD text i 0) room at (length text) → (at + length text ≡ putEnd room at (length text)) × (now ≡ putText room at text)
   unfolding putEnd putText
   put-whole h k now e = (simp (le-ltb (length room) at h, le-ltb (length room - at) (length text) k), e ∙ simp (le-leb at (length room) h, le-leb (length text) (length room - at) k))
+
+-- texts that are still to be put come to a room and a place
+abbrev pub Owes : List ℕ → ℕ → List (List ℕ) → List ℕ → ℕ → Type 0
+Owes room at texts after end = (putTexts room at texts ≡ after) × (putEnds room at texts ≡ end)
+
+module _ (room : List ℕ) (at : ℕ) where
+  pub owes-all : (texts : List (List ℕ)) → Owes room at texts (putTexts room at texts) (putEnds room at texts)
+  owes-all texts = (refl, refl)
+
+-- what is left of a row, and of numbers
+module _ (items : List ℕ) (i : ℕ) where
+  here : i < length items → drop i items ≡ getD items i 0 ∷ drop (i + 1) items
+  here h = rw (add-one) (drop-cons items i 0 h)
+
+  module _ (room after : List ℕ) (at end : ℕ) where
+    pub row-turn : (text room' : List ℕ) (at' : ℕ) → i < length items → text ≡ byteText (getD items i 0) → Owes room at (rowTexts (drop i items)) after end → at' ≡ putEnd room at (length text) → room' ≡ putText room at text → Owes room' at' (rowTexts (drop (i + 1) items)) after end
+    unfolding rowTexts putTexts putEnds
+    row-turn text room' at' h k (p, q) e f = let left = here h in (rw (e, f, k) (rw left at p), rw (e, f, k) (rw left at q))
+
+    pub row-last : (room' : List ℕ) (at' : ℕ) → length items ≤ i → Owes room at (rowTexts (drop i items)) after end → at' ≡ putEnd room at 1 → room' ≡ putText room at lineEnd → (at' ≡ end) × (room' ≡ after)
+    unfolding rowTexts putTexts putEnds
+    row-last room' at' h (p, q) e f = let left = drop-of-length-le items h in (e ∙ rw left at q, f ∙ rw left at p)
+
+    pub values-turn : (blank room' : List ℕ) (parted at' value : ℕ) → i < length items → value ≡ getD items i 0 → Owes room at (valuesTexts (drop i items)) after end → parted ≡ putEnd room at 1 → blank ≡ putText room at (32 ∷ []) → at' ≡ putEnd blank parted (length (decimalText value)) → room' ≡ putText blank parted (decimalText value) → Owes room' at' (valuesTexts (drop (i + 1) items)) after end
+    unfolding valuesTexts putTexts putEnds
+    values-turn blank room' parted at' value h k (p, q) e₁ f₁ e f = let left = here h in (rw (e, f, e₁, f₁, k) (rw left at p), rw (e, f, e₁, f₁, k) (rw left at q))
+
+    pub values-last : (room' : List ℕ) (at' : ℕ) → length items ≤ i → Owes room at (valuesTexts (drop i items)) after end → at' ≡ putEnd room at 1 → room' ≡ putText room at lineEnd → (at' ≡ end) × (room' ≡ after)
+    unfolding valuesTexts putTexts putEnds
+    values-last room' at' h (p, q) e f = let left = drop-of-length-le items h in (e ∙ rw left at q, f ∙ rw left at p)

@@ -1,2 +1,3 @@
 -- Text that programs write.
 pub mod Room
+pub mod Lines

@@ -1,10 +1,11 @@
 -- Numbers as text (console.md), and bytes put into a lent room. Assumes nothing.
-use Prim.Native.Nat.{ℕ, zero, suc, _+_, _-_, _/_, _%_, _≤_}
+use Prim.Native.Nat.{ℕ, zero, suc, _+_, _-_, _/_, _%_, _^_, _≤_}
 use mathlib.Core.Bool.{Bool, cond, _&&_}
 use mathlib.Core.List.{List, [], _∷_}
 use mathlib.Core.Path.{_≡_}
 use lib.Dec.{ltb, leb}
 use lib.ListN.{length, getD, set}
+use Rattle.io.specs.Digits.{digits}
 
 -- a hexadecimal digit, in capitals
 abbrev pub glyph : ℕ → ℕ
@@ -18,6 +19,15 @@ hexText value =
 -- a byte as two digits
 abbrev pub byteText : ℕ → List ℕ
 byteText byte = glyph (byte / 0x10) ∷ glyph byte ∷ []
+
+-- how many decimal digits a number has, where it has `least` at least and `more` beyond that at most
+unfoldable pub places : ℕ → ℕ → ℕ → ℕ
+places least zero value = least
+places least (suc more) value = cond (ltb value (10 ^ least)) least (places (suc least) more value)
+
+-- a number of 64 bits in decimal, with no zeros in front
+unfoldable pub decimalText : ℕ → List ℕ
+decimalText value = digits 10 (places 1 19 value) value
 
 -- a room with n bytes laid into it from a place on
 unfoldable pub laid : (ℕ → ℕ) → List ℕ → ℕ → ℕ → List ℕ
@@ -35,6 +45,15 @@ putText room at text = cond (fits room at (length text)) (laid (λ i. getD text 
 -- the place past it; never past the room's end
 unfoldable pub putEnd : List ℕ → ℕ → ℕ → ℕ
 putEnd room at count = cond (ltb (length room) at) (length room) (cond (ltb (length room - at) count) at (at + count))
+
+-- texts put one after the other, each where the one before ended: the room after them, and the place past the last
+unfoldable pub putTexts : List ℕ → ℕ → List (List ℕ) → List ℕ
+putTexts room at [] = room
+putTexts room at (text ∷ rest) = putTexts (putText room at text) (putEnd room at (length text)) rest
+
+unfoldable pub putEnds : List ℕ → ℕ → List (List ℕ) → ℕ
+putEnds room at [] = at
+putEnds room at (text ∷ rest) = putEnds (putText room at text) (putEnd room at (length text)) rest
 
 -- a place within a room whose length is kept
 pub record Inside (before after : List ℕ) (place : ℕ) : Type 0 where

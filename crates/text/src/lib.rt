@@ -1,7 +1,8 @@
 // Bytes put into a lent room, and numbers as text.
 ghost use mathlib.Core.Path.{_≡_};
 ghost use lib.ListN.{length};
-ghost use Rattle.text.specs.Room.{hexText, byteText, putText, putEnd, Inside};
+ghost use Rattle.text.specs.Room.{hexText, byteText, decimalText, putText, putEnd, putTexts, putEnds, Inside};
+ghost use Rattle.text.specs.Lines.{countTexts, rowTexts, valuesTexts};
 ghost use Rattle.text.specs.Room.{glyph as Room·glyph};
 
 pub mod bytes;
@@ -64,6 +65,8 @@ pub fn byte_text(byte: u8) -> [u8; 2]
 
 // A number as `#00002A`.
 pub fn put_hex(room: &mut [u8], at: usize, value: u32) -> usize
+    ensures place { λ r. ⌜ r ≡ putEnd (now (room .entry)) at 7 ⌝ }
+    ensures bytes { λ _. ⌜ now (room .exit) ≡ putText (now (room .entry)) at (hexText value) ⌝ }
     ensures within { λ r. ⌜ Inside (now (room .entry)) (now (room .exit)) r ⌝ }
 {
     let text = hex_text(value);
@@ -72,6 +75,8 @@ pub fn put_hex(room: &mut [u8], at: usize, value: u32) -> usize
 
 // A number in decimal.
 pub fn put_decimal(room: &mut [u8], at: usize, value: u64) -> usize
+    ensures place { λ r. ⌜ r ≡ putEnd (now (room .entry)) at (length (decimalText value)) ⌝ }
+    ensures bytes { λ _. ⌜ now (room .exit) ≡ putText (now (room .entry)) at (decimalText value) ⌝ }
     ensures within { λ r. ⌜ Inside (now (room .entry)) (now (room .exit)) r ⌝ }
 {
     let mut text = [0u8; 20];
@@ -81,6 +86,8 @@ pub fn put_decimal(room: &mut [u8], at: usize, value: u64) -> usize
 
 // Bytes as a line of hexadecimal digits.
 pub fn put_row(room: &mut [u8], at: usize, bytes: &[u8]) -> usize
+    ensures place { λ r. ⌜ r ≡ putEnds (now (room .entry)) at (rowTexts (now (bytes .entry))) ⌝ }
+    ensures bytes { λ _. ⌜ now (room .exit) ≡ putTexts (now (room .entry)) at (rowTexts (now (bytes .entry))) ⌝ }
     ensures within { λ r. ⌜ Inside (now (room .entry)) (now (room .exit)) r ⌝ }
 {
     let mut end = at;
@@ -102,6 +109,8 @@ fn long(value: u32) -> u64
 
 // Numbers in decimal, a blank before each.
 pub fn put_values(room: &mut [u8], at: usize, values: &[u32]) -> usize
+    ensures place { λ r. ⌜ r ≡ putEnds (now (room .entry)) at (valuesTexts (now (values .entry))) ⌝ }
+    ensures bytes { λ _. ⌜ now (room .exit) ≡ putTexts (now (room .entry)) at (valuesTexts (now (values .entry))) ⌝ }
     ensures within { λ r. ⌜ Inside (now (room .entry)) (now (room .exit)) r ⌝ }
 {
     let mut end = at;
@@ -116,6 +125,8 @@ pub fn put_values(room: &mut [u8], at: usize, values: &[u32]) -> usize
 
 // A text, a number in decimal, and a line's end.
 pub fn put_count(room: &mut [u8], at: usize, text: &[u8], value: u64) -> usize
+    ensures place { λ r. ⌜ r ≡ putEnds (now (room .entry)) at (countTexts (now (text .entry)) value) ⌝ }
+    ensures bytes { λ _. ⌜ now (room .exit) ≡ putTexts (now (room .entry)) at (countTexts (now (text .entry)) value) ⌝ }
     ensures within { λ r. ⌜ Inside (now (room .entry)) (now (room .exit)) r ⌝ }
 {
     let named = put(room, at, text);
