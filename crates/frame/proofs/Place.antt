@@ -13,7 +13,7 @@ use Rattle.screen.specs.declared.Screen.{Screen}
 use Rattle.screen.proofs.Laws.{narrow}
 use Rattle.registers.specs.declared.Registers.{Registers}
 use Rattle.pixel.specs.declared.Sums.{Sums}
-use Rattle.generator.specs.Lines.{visible, tickNumber}
+use Rattle.lines.specs.Lines.{visible, tickNumber}
 use Rattle.generator.specs.Rows.{screen}
 use Rattle.generator.specs.Tick.{stepWith}
 use Rattle.generator.specs.Sound.{shownBefore, Placed}

@@ -19,7 +19,7 @@ use Rattle.pixel.specs.Memory.{endsBeyond}
 use Rattle.pixel.specs.Dot.{black}
 use Rattle.pixel.specs.Sums.{none, summed}
 use Rattle.pixel.proofs.Laws.{summed-join}
-use Rattle.generator.specs.Lines.{opens}
+use Rattle.lines.specs.Lines.{opens}
 use Rattle.generator.specs.Rows.{screen, visibleAt, topUsed, taken, transferAt, heldAddress, place}
 use Rattle.generator.specs.Tick.{shows, dotOf, dots, refuses20, cleared, sumsAfter, seenAfter}
 use Rattle.generator.specs.declared.Generator.{Generator}

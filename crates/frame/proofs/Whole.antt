@@ -15,7 +15,7 @@ use Rattle.screen.specs.Limits.{Accepted}
 use Rattle.screen.specs.Totals.{frameTicks, frameVisible}
 use Rattle.screen.specs.declared.Screen.{Screen}
 use Rattle.registers.specs.declared.Registers.{Registers}
-use Rattle.generator.specs.Lines.{closes}
+use Rattle.lines.specs.Lines.{closes}
 use Rattle.generator.specs.Rows.{screen, visibleAt, taken, heldAddress, asks}
 use Rattle.generator.specs.Tick.{dots, refuses20, sumsAfter, seenAfter, stepWith, step, signalsWith, tickRefusal, tickOf, after}
 use Rattle.generator.specs.Sound.{Sound, Placed}

@@ -16,7 +16,7 @@ use Rattle.screen.specs.Totals.{frameTicks}
 use Rattle.screen.specs.declared.Screen.{Screen}
 use Rattle.registers.specs.declared.Registers.{Registers}
 use Rattle.pixel.specs.declared.Sums.{Sums}
-use Rattle.generator.specs.Lines.{closes, nextHalf, nextAt, tickNumber}
+use Rattle.lines.specs.Lines.{closes, nextHalf, nextAt, tickNumber}
 use Rattle.generator.specs.Rows.{screen, visibleAt}
 use Rattle.generator.specs.Tick.{sumsAfter, seenAfter, stepWith, tickRefusal, tickOf, fresh}
 use Rattle.generator.specs.Sound.{shownBefore, Placed, Sound}

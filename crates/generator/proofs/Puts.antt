@@ -17,8 +17,8 @@ use Rattle.pixel.specs.Sums.{none, summed}
 use Rattle.pixel.specs.declared.Dot.{Dot}
 use Rattle.pixel.specs.declared.Sums.{Sums}
 use Rattle.pixel.proofs.Laws.{ends-beyond-later}
-use Rattle.generator.specs.Rows.{screen, heldAddress, place, asks}
-use Rattle.generator.specs.Tick.{shows, dotOf, dots, refuses20, cleared, sumsAfter, seenAfter, stepWith, signals, silent, tickRefusal, tickOf}
+use Rattle.generator.specs.Rows.{screen, visibleAt, heldAddress, place, asks, requestAt}
+use Rattle.generator.specs.Tick.{shows, dotOf, dots, refuses20, cleared, sumsAfter, seenAfter, stepWith, signalsWith, signals, silent, tickRefusal, tickOf}
 use Rattle.generator.specs.Stand.{Runs, Stands}
 use Rattle.generator.specs.declared.Generator.{Generator}
 use Rattle.generator.specs.declared.Signals.{Signals}
@@ -26,8 +26,9 @@ use Rattle.generator.specs.declared.Ticked.{Ticked}
 use Rattle.generator.specs.declared.rows.Stand.{Stand}
 use Rattle.screen.specs.Parameters.{halfTicks}
 use Rattle.screen.proofs.Laws.{narrow}
-use Rattle.generator.specs.Lines.{visible, closes, nextHalf, nextAt, tickNumber}
+use Rattle.lines.specs.Lines.{visible, tickNumber, momentOf}
 use Rattle.generator.specs.Sound.{shownBefore}
+use Rattle.generator.proofs.Stands.{moment-opens}
 use Rattle.generator.proofs.Bounds.{lines-in}
 use Rattle.generator.proofs.Shown.{shown-line}
 
@@ -81,16 +82,22 @@ module _ (r : Registers) (m : List ℕ) (g : Generator) (t : Stand) (st : Stands
   unfolding dots
   four-at four e s = four-of (shows r g) (dotOf r m (heldAddress r g) (g .seen .0)) (λ k. black) four e s
 
-  pub sums-by : (four : List Dot) → four ≡ dots r m g → (before after out : Sums) → before ≡ cond (t .opens) none (g .sums) → after ≡ summed before (getD four 0 black ∷ getD four 1 black ∷ getD four 2 black ∷ getD four 3 black ∷ []) → out ≡ cond (t .shows) after before → out ≡ sumsAfter r m g
+  pub sums-by : (four : List Dot) → four ≡ dots r m g → (before after out : Sums) → before ≡ cond (t .moment .opens) none (g .sums) → after ≡ summed before (getD four 0 black ∷ getD four 1 black ∷ getD four 2 black ∷ getD four 3 black ∷ []) → out ≡ cond (t .shows) after before → out ≡ sumsAfter r m g
   unfolding sumsAfter cleared
-  sums-by four e before after out eb ea eo = eo ∙ rw (ea, four-at four e before, e, eb, st .shows-is, st .opens-is)
+  sums-by four e before after out eb ea eo = eo ∙ rw (ea, four-at four e before, e, eb, st .shows-is, moment-opens r g t st)
 
 -- the generator after the tick, from what its parts answer
-pub next-by : (r : Registers) (g : Generator) (t : Stand) → Stands r g t → (sums : Sums) (last asking asked : Bool) (more half at seen : ℕ) → more ≡ cond (t .visible) (g .seen .0 + 1) (g .seen .0) → last ≡ closes (t .screen) (g .half .0) (g .at .0) → asking ≡ asks (r .control) (t .screen) (g .seen .0) →
-    half ≡ nextHalf (t .screen) (g .half .0) (g .at .0) → at ≡ nextAt (t .screen) (g .at .0) → seen ≡ cond last 0 more → asked ≡ cond (t .visible) asking (g .asked) →
-    _≡_ {A = Generator} (record { half = record { 0 = half }; at = record { 0 = at }; seen = record { 0 = seen }; held = t .held; asked = asked; sums = sums }) (stepWith r g sums)
-unfolding stepWith seenAfter
-next-by r g t st sums last asking asked more half at seen em el ea eh et es ek = rw (eh, et, es, ek, em, el, ea, st .screen-is, st .visible-is, st .held-is)
+pub next-by : (r : Registers) (g : Generator) (t : Stand) → Stands r g t → (sums : Sums) (asking asked : Bool) (more seen : ℕ) → more ≡ cond (t .moment .visible) (g .seen .0 + 1) (g .seen .0) → asking ≡ asks (r .control) (t .screen) (g .seen .0) →
+    seen ≡ cond (t .moment .closes) 0 more → asked ≡ cond (t .moment .visible) asking (g .asked) →
+    _≡_ {A = Generator} (record { half = record { 0 = t .moment .half }; at = record { 0 = t .moment .at }; seen = record { 0 = seen }; held = t .held; asked = asked; sums = sums }) (stepWith r g sums)
+unfolding stepWith seenAfter visibleAt momentOf
+next-by r g t st sums asking asked more seen em ea es ek = rw (es, ek, em, ea, st .moment-is, st .screen-is, st .held-is)
+
+-- every signal, from what its parts answer
+pub signals-by : (r : Registers) (g : Generator) (t : Stand) → Stands r g t → (four : List Dot) (request on : Bool) (address : ℕ) → request ≡ requestAt r g → on ≡ transferring (r .control) → address ≡ cond (on && t .transfer) (t .held) 0 →
+    record { sync = not (t .moment .low); vsync = not (t .moment .vsync); inactive = not (t .moment .vdisplay); blank = not (t .shows); request = request; transfer = on && t .transfer; address = address; dots = four } ≡ signalsWith r g four
+unfolding signalsWith momentOf
+signals-by r g t st four request on address eq eo ea = rw (ea, eq, eo, st .moment-is, st .shows-is, st .transfer-is, st .held-is)
 
 -- the columns and lines of a placed generator's next tick
 module _ (r : Registers) (g : Generator) (k : Runs r g) (s : Screen) (e : s ≡ screen r) where

@@ -12,9 +12,9 @@ use Rattle.base.specs.Count.{count}
 use Rattle.screen.specs.Parameters.{halfTicks, displayFrom, halvesToVBlank, halvesToVDisplay}
 use Rattle.screen.specs.Limits.{Accepted}
 use Rattle.screen.specs.declared.Screen.{Screen}
-use Rattle.generator.specs.Lines.{period, isVDisplay, secondHalf, inLine, inDisplay, visible, tickNumber}
+use Rattle.lines.specs.Lines.{period, isVDisplay, secondHalf, inLine, inDisplay, visible, tickNumber}
 use Rattle.generator.specs.Sound.{shownBefore}
-use Rattle.generator.specs.declared.Period.the-variants.{PreEqualise, VSync, PostEqualise, VBlank, VDisplay}
+use Rattle.lines.specs.declared.Period.the-variants.{PreEqualise, VSync, PostEqualise, VBlank, VDisplay}
 
 -- a test and what it says, as a case
 pub below : (a b : ℕ) → (a < b) ⊎ (b ≤ a)

@@ -1,11 +1,11 @@
 -- What the code finds of a tick is what the rules say of it. Assumes nothing.
 use Prim.Native.Nat.{ℕ, _+_, _*_, _/_, _%_, _^_, _≤_, _<_}
 use mathlib.Core.Bool.{Bool, not, cond, _&&_}
-use mathlib.Core.Path.{_≡_, refl, sym, _∙_}
+use mathlib.Core.Path.{_≡_, refl, sym, ap, _∙_}
 use native.Mathlib.Omega.{arith}
 use lib.Dec.{ltb, eqb}
 use Rattle.base.specs.Sum.{rolled}
-use Rattle.control.specs.Control.{forcedBlank, transferring, increment}
+use Rattle.control.specs.Control.{plain, forcedBlank, transferring, increment}
 use Rattle.control.proofs.Laws.{increment-positive}
 use Rattle.screen.specs.Parameters.{rowLength, screenOf}
 use Rattle.screen.specs.Totals.{frameVisible}
@@ -13,7 +13,8 @@ use Rattle.screen.specs.Limits.{Bounded}
 use Rattle.screen.specs.declared.Screen.{Screen}
 use Rattle.screen.proofs.Laws.{narrow}
 use Rattle.registers.specs.declared.Registers.{Registers}
-use Rattle.generator.specs.Lines.{visible, opens}
+use Rattle.lines.specs.Lines.{visible, opens, momentOf}
+use Rattle.lines.specs.declared.Moment.{Moment}
 use Rattle.generator.specs.Rows.{screen, visibleAt, taken, transferAt, heldAddress, place, asks, leads, requestAt}
 use Rattle.generator.specs.Tick.{shows}
 use Rattle.generator.specs.Sound.{Inside}
@@ -33,24 +34,31 @@ row-some s b = omega arith
 pub row-most : (s : Screen) → Bounded 0xFFFFFF s → rowLength s ≤ 2 ^ 26
 row-most s b = omega arith
 
-module _ (r : Registers) (g : Generator) (k : Runs r g) (s : Screen) (es : s ≡ screen r) (v o b : Bool) (i t h p : ℕ)
-    (ev : v ≡ visible s (g .half .0) (g .at .0))
-    (eo : o ≡ opens s (g .half .0) (g .at .0))
+module _ (r : Registers) (g : Generator) (k : Runs r g) (s : Screen) (es : s ≡ screen r) (n : Moment) (l b : Bool) (i t h p : ℕ)
+    (el : l ≡ plain (r .control))
+    (en : n ≡ momentOf (screen r) l (g .half .0) (g .at .0))
     (ei : i ≡ increment (r .control))
-    (et : t ≡ cond o (r .top) (g .held))
-    (eh : h ≡ cond ((v && eqb (g .seen .0 % rowLength s) 0) && ltb 0 (g .seen .0)) (rolled t i) t)
+    (et : t ≡ cond (n .opens) (r .top) (g .held))
+    (eh : h ≡ cond ((n .visible && eqb (g .seen .0 % rowLength s) 0) && ltb 0 (g .seen .0)) (rolled t i) t)
     (eb : b ≡ forcedBlank (r .control))
     (ep : p ≡ (h / i * rowLength s + g .seen .0 % rowLength s) * 4 + 0)
     (pl : p < 2 ^ 60) where
-  visible-is : v ≡ visibleAt r g
-  unfolding visibleAt
-  visible-is = ev ∙ rw es
+  moment-is : n ≡ momentOf (screen r) (plain (r .control)) (g .half .0) (g .at .0)
+  moment-is = en ∙ rw el
+
+  visible-is : n .visible ≡ visibleAt r g
+  unfolding visibleAt momentOf
+  visible-is = ap (λ (x : Moment). x .visible) moment-is
+
+  opens-is : n .opens ≡ opens (screen r) (g .half .0) (g .at .0)
+  unfolding momentOf
+  opens-is = ap (λ (x : Moment). x .opens) moment-is
 
   taken-is : t ≡ taken r g
   unfolding taken
-  taken-is = et ∙ rw (eo, es)
+  taken-is = et ∙ rw opens-is
 
-  transfer-is : (v && eqb (g .seen .0 % rowLength s) 0) ≡ transferAt r g
+  transfer-is : (n .visible && eqb (g .seen .0 % rowLength s) 0) ≡ transferAt r g
   unfolding transferAt
   transfer-is = rw (visible-is, es)
 
@@ -58,7 +66,7 @@ module _ (r : Registers) (g : Generator) (k : Runs r g) (s : Screen) (es : s ≡
   unfolding heldAddress
   held-is = eh ∙ rw (transfer-is, taken-is, ei)
 
-  shows-is : (v && not b) ≡ shows r g
+  shows-is : (n .visible && not b) ≡ shows r g
   unfolding shows
   shows-is = rw (visible-is, eb)
 
@@ -66,13 +74,12 @@ module _ (r : Registers) (g : Generator) (k : Runs r g) (s : Screen) (es : s ≡
   unfolding place
   place-is = ep ∙ rw (held-is, ei, es)
 
-  pub stands : Stands r g (record { screen = s; visible = v; opens = o; transfer = v && eqb (g .seen .0 % rowLength s) 0; held = h; shows = v && not b; place = p })
+  pub stands : Stands r g (record { screen = s; moment = n; transfer = n .visible && eqb (g .seen .0 % rowLength s) 0; held = h; shows = n .visible && not b; place = p })
   stands =
       record {
         screen-is = es;
         inside = runs-inside r g k s es;
-        visible-is = visible-is;
-        opens-is = eo ∙ rw es;
+        moment-is = moment-is;
         transfer-is = transfer-is;
         held-is = held-is;
         shows-is = shows-is;
@@ -80,8 +87,18 @@ module _ (r : Registers) (g : Generator) (k : Runs r g) (s : Screen) (es : s ≡
         place-in = pl;
       }
 
+-- what a tick's moment says of it
+module _ (r : Registers) (g : Generator) (t : Stand) (st : Stands r g t) where
+  pub moment-visible : t .moment .visible ≡ visibleAt r g
+  unfolding visibleAt momentOf
+  moment-visible = ap (λ (x : Moment). x .visible) (st .moment-is)
+
+  pub moment-opens : t .moment .opens ≡ opens (screen r) (g .half .0) (g .at .0)
+  unfolding momentOf
+  moment-opens = ap (λ (x : Moment). x .opens) (st .moment-is)
+
 -- the request, from what its parts answer
 pub request-by : (r : Registers) (g : Generator) (t : Stand) → Stands r g t → (leading asking kept on out : Bool) → leading ≡ leads (t .screen) (g .half .0) (g .at .0) → asking ≡ asks (r .control) (t .screen) (g .seen .0) →
-    kept ≡ cond (eqb (g .seen .0) 0) leading (ltb (g .seen .0) (frameVisible (t .screen)) && g .asked) → on ≡ transferring (r .control) → out ≡ cond (t .visible) asking kept → (on && out) ≡ requestAt r g
+    kept ≡ cond (eqb (g .seen .0) 0) leading (ltb (g .seen .0) (frameVisible (t .screen)) && g .asked) → on ≡ transferring (r .control) → out ≡ cond (t .moment .visible) asking kept → (on && out) ≡ requestAt r g
 unfolding requestAt
-request-by r g t st leading asking kept on out el ea ek en eo = rw (eo, en, ek, el, ea, st .visible-is, st .screen-is)
+request-by r g t st leading asking kept on out el ea ek en eo = rw (eo, en, ek, el, ea, moment-visible r g t st, st .screen-is)

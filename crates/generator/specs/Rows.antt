@@ -9,7 +9,7 @@ use Rattle.screen.specs.Parameters.{screenOf, halfTicks, displayFrom, halvesToV
 use Rattle.screen.specs.Totals.{frameVisible}
 use Rattle.screen.specs.declared.Screen.{Screen}
 use Rattle.registers.specs.declared.Registers.{Registers}
-use Rattle.generator.specs.Lines.{visible, opens, tickNumber}
+use Rattle.lines.specs.Lines.{visible, opens, tickNumber}
 use Rattle.generator.specs.declared.Generator.{Generator}
 
 abbrev pub screen : Registers → Screen

@@ -10,7 +10,7 @@ use Rattle.screen.specs.Limits.{Bounded, Accepted}
 use Rattle.screen.specs.declared.Screen.{Screen}
 use Rattle.registers.specs.File.{Held}
 use Rattle.registers.specs.declared.Registers.{Registers}
-use Rattle.generator.specs.Lines.{visible, tickNumber}
+use Rattle.lines.specs.Lines.{visible, tickNumber}
 use Rattle.generator.specs.Rows.{screen}
 use Rattle.generator.specs.declared.Generator.{Generator}
 

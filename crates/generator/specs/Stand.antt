@@ -2,11 +2,11 @@
 use Prim.Native.Nat.{ℕ, _^_, _<_, _≤_}
 use mathlib.Core.Bool.{Bool, true}
 use mathlib.Core.Path.{_≡_}
-use Rattle.control.specs.Control.{running}
+use Rattle.control.specs.Control.{running, plain}
 use Rattle.screen.specs.Limits.{Accepted}
 use Rattle.registers.specs.declared.Registers.{Registers}
-use Rattle.generator.specs.Lines.{opens}
-use Rattle.generator.specs.Rows.{screen, visibleAt, transferAt, heldAddress, place}
+use Rattle.lines.specs.Lines.{momentOf}
+use Rattle.generator.specs.Rows.{screen, transferAt, heldAddress, place}
 use Rattle.generator.specs.Tick.{shows}
 use Rattle.generator.specs.Sound.{Placed, Inside}
 use Rattle.generator.specs.declared.Generator.{Generator}
@@ -22,8 +22,7 @@ pub record Runs (r : Registers) (g : Generator) : Type 0 where
 pub record Stands (r : Registers) (g : Generator) (t : Stand) : Type 0 where
   pub screen-is : t .screen ≡ screen r
   pub inside : Inside (t .screen) (g .half .0) (g .at .0)
-  pub visible-is : t .visible ≡ visibleAt r g
-  pub opens-is : t .opens ≡ opens (screen r) (g .half .0) (g .at .0)
+  pub moment-is : t .moment ≡ momentOf (screen r) (plain (r .control)) (g .half .0) (g .at .0)
   pub transfer-is : t .transfer ≡ transferAt r g
   pub held-is : t .held ≡ heldAddress r g
   pub shows-is : t .shows ≡ shows r g

@@ -12,7 +12,7 @@ use Rattle.pixel.specs.Dot.{dotAt, black}
 use Rattle.pixel.specs.Sums.{none, summed}
 use Rattle.pixel.specs.declared.Dot.{Dot}
 use Rattle.pixel.specs.declared.Sums.{Sums}
-use Rattle.generator.specs.Lines.{period, isVSync, isVDisplay, syncLow, opens, closes, nextHalf, nextAt}
+use Rattle.lines.specs.Lines.{period, isVSync, isVDisplay, syncLow, opens, closes, nextHalf, nextAt}
 use Rattle.generator.specs.Rows.{screen, visibleAt, transferAt, heldAddress, place, asks, requestAt}
 use Rattle.generator.specs.declared.Generator.{Generator}
 use Rattle.generator.specs.declared.Signals.{Signals}

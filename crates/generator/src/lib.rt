@@ -1,5 +1,4 @@
 // The video timing generator (01, "Lines and frames", "Rows and pixels"): one tick by value.
-mod lines;
 mod output;
 mod rows;
 
@@ -12,15 +11,6 @@ use pixel::Sums;
 use registers::Registers;
 use screen::HalfLines;
 use screen::ScreenUnits;
-
-// The five periods, in frame order.
-pub enum Period {
-    PreEqualise,
-    VSync,
-    PostEqualise,
-    VBlank,
-    VDisplay,
-}
 
 // The next tick's half line and its number in that half line; the frame's visible ticks so far; the last address; the request at the
 // last visible tick; the checksums.
@@ -104,9 +94,8 @@ pub fn is_displaying(r: Registers, g: Generator) -> bool
     let params = r.params;
     let runs = control::is_running(r.control);
     if runs {
-        let s = screen::screen_of(params);
-        let period = lines::period_of(s, g.half.0);
-        return lines::is_vdisplay(period);
+        let moment = lines::moment_of(params, false, g.half.0 as u32, 0);
+        return moment.vdisplay;
     }
     false
 }

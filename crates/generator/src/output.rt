@@ -75,7 +75,7 @@ pub fn sums_of(r: Registers, g: Generator, t: Stand, memory: &[u8], four: [Dot; 
     requires { ⌜ four ≡ dots r (now memory) g ⌝ }
     ensures sums { λ s. ⌜ s ≡ sumsAfter r (now (memory .entry)) g ⌝ }
 {
-    let before = kept(t.opens, Sums::none(), g.sums);
+    let before = kept(t.moment.opens, Sums::none(), g.sums);
     let after = added(before, four[0], four[1], four[2], four[3]);
     kept(t.shows, after, before)
 }
@@ -86,19 +86,16 @@ pub fn next_of(r: Registers, g: Generator, t: Stand, sums: Sums) -> Generator
     requires { ⌜ Stands r g t ⌝ }
     ensures next { λ n. ⌜ n ≡ stepWith r g sums ⌝ }
 {
-    let s = t.screen;
-    let half = g.half.0;
-    let at = g.at.0;
+    let m = t.moment;
     let seen = g.seen.0;
-    let more = base::choose(t.visible, seen + 1, seen);
-    let last = crate::lines::is_closing(s, half, at);
-    let asking = crate::rows::is_asking(r.control, s, seen);
+    let more = base::choose(m.visible, seen + 1, seen);
+    let asking = crate::rows::is_asking(r.control, t.screen, seen);
     Generator {
-        half: HalfLines(crate::lines::next_half(s, half, at)),
-        at: ScreenUnits(crate::lines::next_at(s, half, at)),
-        seen: ScreenUnits(base::choose(last, 0, more)),
+        half: HalfLines(m.half),
+        at: ScreenUnits(m.at),
+        seen: ScreenUnits(base::choose(m.closes, 0, more)),
         held: t.held,
-        asked: base::level(t.visible, asking, g.asked),
+        asked: base::level(m.visible, asking, g.asked),
         sums,
     }
 }
@@ -109,18 +106,13 @@ pub fn signals_of(r: Registers, g: Generator, t: Stand, four: [Dot; 4]) -> Signa
     requires { ⌜ Stands r g t ⌝ }
     ensures signals { λ n. ⌜ n ≡ signalsWith r g four ⌝ }
 {
-    let s = t.screen;
-    let half = g.half.0;
-    let at = g.at.0;
-    let plain = control::is_plain(r.control);
-    let low = crate::lines::is_sync_low(s, plain, half, at);
-    let period = crate::lines::period_of(s, half);
+    let m = t.moment;
     let request = crate::rows::is_request(r, g, t);
     let transfer = control::is_transferring(r.control) & t.transfer;
     Signals {
-        sync: !low,
-        vsync: !crate::lines::is_vsync(period),
-        inactive: !crate::lines::is_vdisplay(period),
+        sync: !m.low,
+        vsync: !m.vsync,
+        inactive: !m.vdisplay,
         blank: !t.shows,
         request,
         transfer,

@@ -9,13 +9,13 @@ ghost use Rattle.generator.specs.Rows.{asks, leads, requestAt};
 ghost use Rattle.generator.specs.Sound.{Inside};
 ghost use Rattle.generator.specs.Stand.{Runs, Stands};
 use crate::Generator;
+use lines::Moment;
 use registers::Registers;
 use screen::Screen;
 
 pub struct Stand {
     pub screen: Screen,
-    pub visible: bool,
-    pub opens: bool,
+    pub moment: Moment,
     pub transfer: bool,
     pub held: u32,
     pub shows: bool,
@@ -50,21 +50,20 @@ pub fn stand_of(r: Registers, g: Generator) -> Stand
     let seen = g.seen.0;
     let s = screen::screen_of(params);
     let row = s.meminit.0 + s.transferdelay.0;
-    let visible = crate::lines::is_visible(s, half, at);
-    let opens = crate::lines::is_opening(s, half, at);
-    let transfer = visible & (seen % row == 0);
+    let plain = control::is_plain(r.control);
+    let moment = lines::moment_of(params, plain, half as u32, at as u32);
+    let transfer = moment.visible & (seen % row == 0);
     let increment = control::address_increment(r.control);
-    let taken = base::first(opens, r.top, g.held);
+    let taken = base::first(moment.opens, r.top, g.held);
     let held = held_of(taken, transfer & (0 < seen), increment);
     let blank = control::is_forced_blank(r.control);
     let place = place_of(held, increment, row, seen);
     Stand {
         screen: s,
-        visible,
-        opens,
+        moment,
         transfer,
         held,
-        shows: visible & !blank,
+        shows: moment.visible & !blank,
         place,
     }
 }
@@ -112,5 +111,5 @@ pub fn is_request(r: Registers, g: Generator, t: Stand) -> bool
     let asking = is_asking(r.control, s, seen);
     let kept = base::level(seen == 0, leading, (seen < all) & g.asked);
     let on = control::is_transferring(r.control);
-    on & base::level(t.visible, asking, kept)
+    on & base::level(t.moment.visible, asking, kept)
 }

@@ -15,13 +15,11 @@ use Rattle.pixel.specs.Memory.{pixelShown}
 use Rattle.pixel.specs.Dot.{dotAt}
 use Rattle.pixel.specs.declared.Dot.{Dot}
 use Rattle.pixel.specs.declared.Sums.{Sums}
-use Rattle.generator.specs.Lines.{lowIn, period, secondHalf, inLine, visible, opens, closes, nextHalf, nextAt}
+use Rattle.lines.specs.Lines.{period, secondHalf, inLine, visible, opens, closes, nextHalf, nextAt}
 use Rattle.generator.specs.Rows.{screen, visibleAt, taken, transferAt, heldAddress, place, asks, leads, requestAt}
 use Rattle.generator.specs.Tick.{shows, dotOf, dots, refuses20, cleared, sumsAfter, seenAfter, stepWith, signalsWith, tickRefusal, tickOf}
 use Rattle.generator.specs.declared.Generator.{Generator}
 use Rattle.generator.specs.declared.Ticked.{Ticked}
-use Rattle.generator.specs.declared.Period.{Period}
-use Rattle.generator.specs.declared.Period.the-variants.{PreEqualise, VSync, PostEqualise, VBlank, VDisplay}
 use Rattle.machine.specs.Alike.{SameMode, withLineStart, Alike, SameColours}
 
 -- a field from bit 15 on is one of the word past bit 10
@@ -39,14 +37,6 @@ bit-11 c d e = omega arith
 
 bit-22 : (c d : ℕ) → d / 1024 ≡ c / 1024 → field 22 1 d ≡ field 22 1 c
 bit-22 c d e = omega arith
-
--- LineStart is no part of the sync
-low-same : (s : Screen) (n : ℕ) (plain : Bool) (p : Period) (at tick : ℕ) → lowIn (withLineStart s n) plain p at tick ≡ lowIn s plain p at tick
-low-same s n plain PreEqualise at tick = refl
-low-same s n plain VSync at tick = refl
-low-same s n plain PostEqualise at tick = refl
-low-same s n plain VBlank at tick = refl
-low-same s n plain VDisplay at tick = refl
 
 -- what such words share: every switch and field that has an effect
 module _ (c d : ℕ) (m : SameMode c d) where
@@ -149,7 +139,7 @@ module _ (r other : Registers) (n : ℕ) (a : Alike r other n) where
     same-signals : plain d ≡ plain c → (four : List Dot) → signalsWith other g four ≡ signalsWith r g four
     unfolding signalsWith period inLine secondHalf
     same-signals p four =
-        rw (same-shows g, same-request g, same-held g, same-transfer g, p, same-transferring c d (a .mode), a .line-start, low-same)
+        rw (same-shows g, same-request g, same-held g, same-transfer g, p, same-transferring c d (a .mode), a .line-start)
 
     same-number : tickRefusal other m g ≡ tickRefusal r m g
     unfolding tickRefusal

@@ -11,7 +11,7 @@ use Rattle.pixel.specs.Colour
 use Rattle.pixel.specs.Cursor
 use Rattle.pixel.specs.Dot
 use Rattle.pixel.specs.Sums
-use Rattle.generator.specs.Lines
+use Rattle.lines.specs.Lines
 use Rattle.generator.specs.Rows
 use Rattle.generator.specs.Tick
 use Rattle.machine.specs.Rules

@@ -1,32 +1,47 @@
 -- `generator::is_displaying` meets its contract: the period of a running generator's next tick.
-use mathlib.Core.Path.{sym, ap, _∙_}
-use mathlib.Core.Bool.{Bool, _&&_}
+use Prim.Native.Nat.{ℕ, _<_, _^_}
+use mathlib.Core.Bool.{Bool, true}
+use mathlib.Core.Path.{_≡_, sym, ap, _∙_}
+use native.Mathlib.Omega.{arith}
 use borrow.Author.Needs.{needs}
-use Rattle.screen.specs.Limits.{Bounded}
-use Rattle.screen.specs.declared.Screen.{Screen}
+use Rattle.control.specs.Control.{running}
 use Rattle.screen.proofs.Laws.{narrow}
-use Rattle.generator.specs.Lines.{period, isVDisplay}
+use Rattle.registers.specs.declared.Registers.{Registers}
+use Rattle.lines.specs.Lines.{momentOf}
+use Rattle.lines.specs.declared.Moment.{Moment}
+use Rattle.generator.specs.Sound.{Sound}
+use Rattle.generator.specs.Rows.{screen}
 use Rattle.generator.specs.Tick.{displaying}
+use Rattle.generator.specs.declared.Generator.{Generator}
 use Rattle.generator.proofs.is_displaying.Statement.{statement}
 use Rattle.generator.proofs.is_displaying.Tie as tie
 
-bounded : (c : tie.After-screen-of) → Bounded 0xFFFFFF (c .screen-of .result)
-bounded c =
-    let start = c .before .before .before .before in
-    rw (c .screen-of .ensures) (narrow _ (start .pre .accepted (sym (c .before .before .is-running .ensures) ∙ c .before .if1 .taken) .bounded))
+-- a running generator's half line fits 32 bits
+half-in : (r : Registers) (g : Generator) → Sound r g → running (r .control) ≡ true → g .half .0 < 2 ^ 32
+half-in r g k on =
+    let b = narrow (screen r) (k .accepted on .bounded) in
+    omega (arith, k .placed on .half-in, b .vpreequalise .high, b .vsync .high, b .vpostequalise .high, b .vblank .high, b .vdisplay .high)
+
+lit : (r : Registers) (g : Generator) (m : Moment) → running (r .control) ≡ true → m ≡ momentOf (screen r) Bool.false (g .half .0) 0 → m .vdisplay ≡ displaying r g
+unfolding displaying momentOf
+lit r g m on e = rw on (ap (λ (x : Moment). x .vdisplay) e)
+
+dark : (r : Registers) (g : Generator) → running (r .control) ≡ Bool.false → Bool.false ≡ displaying r g
+unfolding displaying
+dark r g off = rw off
 
 pub is-displaying-spec : {M : Type 1} → statement M
-unfolding displaying
 is-displaying-spec =
     tie.close
     (tie.spec
     (λ c κs. search needs)
-    (λ c κs. search needs)
-    (λ c κs. bounded c)
+    (λ c.
+    let run = c .before .before in
+    let start = run .before .before in
+    omega (arith, half-in (start .args .r) (start .args .g) (start .pre) (sym (run .is-running .ensures) ∙ c .before .if1 .taken)))
     (λ c κs. search needs)
     (λ c.
-    let lit = c .before .before .before in
-    let half = lit .before .before .before .args .g .half .0 in
-    simp (sym (lit .before .is-running .ensures) ∙ lit .if1 .taken)
-    (c .is-vdisplay .ensures ∙ ap isVDisplay (c .before .period-of .ensures ∙ ap (λ (s : Screen). period s half) (c .before .before .screen-of .ensures))))
-    (λ c. simp (sym (c .before .is-running .ensures) ∙ c .if1 .left)))
+    let run = c .before .before .before in
+    let start = run .before .before in
+    lit (start .args .r) (start .args .g) _ (sym (run .is-running .ensures) ∙ c .before .before .if1 .taken) (c .moment-of .ensures))
+    (λ c. dark _ _ (sym (c .before .is-running .ensures) ∙ c .if1 .left)))

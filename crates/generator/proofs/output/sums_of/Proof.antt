@@ -23,6 +23,6 @@ sums-of-spec =
     let before = c .before .before .before .before .before .before in
     let start = before .before .before .before in
     sums-by (start .args .r) (start .args .memory .now) (start .args .g) (start .args .t) (start .pre .0) _ (start .pre .1) _ _ _
-    (before .kept .ensures ∙ ap (λ (n : Sums). cond (start .args .t .opens) n (start .args .g .sums)) (before .before .none .ensures))
+    (before .kept .ensures ∙ ap (λ (n : Sums). cond (start .args .t .moment .opens) n (start .args .g .sums)) (before .before .none .ensures))
     (c .before .added .ensures)
     (c .kept2 .ensures)))

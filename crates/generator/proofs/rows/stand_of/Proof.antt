@@ -1,5 +1,4 @@
 -- `generator::rows::stand_of` meets its contract: each part by its own call, joined by one law.
-use mathlib.Core.Path.{_≡_}
 use native.Mathlib.Omega.{arith}
 use borrow.Author.Needs.{needs}
 use Rattle.control.proofs.Laws.{increment-positive}
@@ -20,29 +19,34 @@ stand-of-spec =
     (tie.spec
     (λ c κs. search needs)
     (λ c. omega (arith, row-most _ (inside c .bounded)))
-    (λ c κs. inside c)
-    (λ c κs. inside (c .before) .bounded)
+    (λ c κs. search needs)
+    (λ c. search needs)
+    (λ c. search needs)
+    (λ c κs. search needs)
     (λ c. omega (arith, row-some _ (inside (c .before .before) .bounded)))
     (λ c κs. search needs)
     (λ c κs. search needs)
     (λ c κs. search needs)
     (λ c κs. search needs)
     (λ c κs.
-    let k = c .before .before .before .before .before .before in
+    let q = c .before .before .before in
+    let k = q .before .before .before .before in
     let control = start k .args .r .control in (
-      omega (arith, increment-positive control, c .before .before .before .address-increment .ensures),
+      omega (arith, increment-positive control, q .address-increment .ensures),
       row-some _ (inside k .bounded),
       row-most _ (inside k .bounded),
     ))
     (λ c.
-    let q = c .before .before .before .before in
-    let k = q .before .before .before in
+    let p = c .before in
+    let q = p .before .before .before .before in
+    let m = q .before .before in
+    let k = m .before .before in
     stands (start k .args .r) (start k .args .g) (start k .pre) (k .before .screen-of .result) (k .before .screen-of .ensures) _ _ _ _ _ _ _
-    (q .before .before .is-visible .ensures)
-    (q .before .is-opening .ensures)
+    (m .before .is-plain .ensures)
+    (m .moment-of .ensures)
     (q .address-increment .ensures)
-    (c .before .before .before .first .ensures)
-    (c .before .before .held-of .ensures)
-    (c .before .is-forced-blank .ensures)
-    (c .place-of .ensures .0)
-    (c .place-of .ensures .1)))
+    (p .before .before .before .first .ensures)
+    (p .before .before .held-of .ensures)
+    (p .before .is-forced-blank .ensures)
+    (p .place-of .ensures .0)
+    (p .place-of .ensures .1)))

@@ -5,8 +5,9 @@ use mathlib.Core.Bool.{Bool, true, false, not, cond, _&&_, _||_}
 use lib.Dec.{ltb, leb, eqb}
 use Rattle.screen.specs.Parameters.{halfTicks, displayFrom, halvesToVBlank, halvesToVDisplay, halvesInFrame}
 use Rattle.screen.specs.declared.Screen.{Screen}
-use Rattle.generator.specs.declared.Period.{Period}
-use Rattle.generator.specs.declared.Period.the-variants.{PreEqualise, VSync, PostEqualise, VBlank, VDisplay}
+use Rattle.lines.specs.declared.Period.{Period}
+use Rattle.lines.specs.declared.Moment.{Moment}
+use Rattle.lines.specs.declared.Period.the-variants.{PreEqualise, VSync, PostEqualise, VBlank, VDisplay}
 
 -- a frame is its five periods, counted in half lines
 unfoldable pub period : Screen → ℕ → Period
@@ -52,15 +53,15 @@ unfoldable pub visible : Screen → ℕ → ℕ → Bool
 visible s half at = isVDisplay (period s half) && inDisplay s (inLine s half at)
 
 -- sync is low, by the period; at: the tick's number in a cycle of half a line, tick: in the full line
-abbrev pub lowIn : Screen → Bool → Period → ℕ → ℕ → Bool
-lowIn s plain PreEqualise at tick = not plain && ltb at (s .halfsync .0)
-lowIn s plain VSync at tick = plain || ltb at (s .broadpulse .0)
-lowIn s plain PostEqualise at tick = not plain && ltb at (s .halfsync .0)
-lowIn s plain VBlank at tick = ltb tick (2 * s .halfsync .0)
-lowIn s plain VDisplay at tick = ltb tick (2 * s .halfsync .0)
+abbrev pub lowIn : Bool → ℕ → ℕ → Period → ℕ → ℕ → Bool
+lowIn plain halfsync broadpulse PreEqualise at tick = not plain && ltb at halfsync
+lowIn plain halfsync broadpulse VSync at tick = plain || ltb at broadpulse
+lowIn plain halfsync broadpulse PostEqualise at tick = not plain && ltb at halfsync
+lowIn plain halfsync broadpulse VBlank at tick = ltb tick (2 * halfsync)
+lowIn plain halfsync broadpulse VDisplay at tick = ltb tick (2 * halfsync)
 
 abbrev pub syncLow : Screen → Bool → ℕ → ℕ → Bool
-syncLow s plain half at = lowIn s plain (period s half) at (inLine s half at)
+syncLow s plain half at = lowIn plain (s .halfsync .0) (s .broadpulse .0) (period s half) at (inLine s half at)
 
 -- the first tick of VDisplay
 unfoldable pub opens : Screen → ℕ → ℕ → Bool
@@ -80,3 +81,17 @@ nextAt s at = cond (ltb (at + 1) (halfTicks s)) (at + 1) 0
 -- the tick's number in the frame
 abbrev pub tickNumber : Screen → ℕ → ℕ → ℕ
 tickNumber s half at = half * halfTicks s + at
+
+-- the moment of a place, all in one: a low sync, and the place one tick on
+unfoldable pub momentOf : Screen → Bool → ℕ → ℕ → Moment
+momentOf s plain half at =
+    record {
+      vsync = isVSync (period s half);
+      vdisplay = isVDisplay (period s half);
+      visible = visible s half at;
+      low = syncLow s plain half at;
+      opens = opens s half at;
+      closes = closes s half at;
+      half = nextHalf s half at;
+      at = nextAt s at;
+    }

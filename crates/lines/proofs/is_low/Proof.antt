@@ -1,10 +1,10 @@
--- `generator::lines::is_low_in` meets its contract: sync by the period, case by case.
+-- `lines::is_low` meets its contract: sync by the period, case by case.
 use borrow.Author.Needs.{needs}
-use Rattle.generator.proofs.lines.is_low_in.Statement.{statement}
-use Rattle.generator.proofs.lines.is_low_in.Tie as tie
+use Rattle.lines.proofs.is_low.Statement.{statement}
+use Rattle.lines.proofs.is_low.Tie as tie
 
-pub is-low-in-spec : {M : Type 1} → statement M
-is-low-in-spec =
+pub is-low-spec : {M : Type 1} → statement M
+is-low-spec =
     tie.close
     (tie.spec
     (λ c. search needs)

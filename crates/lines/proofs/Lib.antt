@@ -1,0 +1,2 @@
+-- Laws of lines and frames.
+mod Moments

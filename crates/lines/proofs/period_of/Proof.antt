@@ -1,0 +1,14 @@
+-- `lines::period_of` meets its contract: four tests in frame order.
+use borrow.Author.Needs.{needs}
+use Rattle.lines.proofs.period_of.Statement.{statement}
+use Rattle.lines.proofs.period_of.Tie as tie
+
+pub period-of-spec : {M : Type 1} → statement M
+period-of-spec =
+    tie.close
+    (tie.spec
+    (λ c κs. search needs)
+    (λ c κs. search needs)
+    (λ c κs. search needs)
+    (λ c κs. search needs)
+    (λ c. cc))

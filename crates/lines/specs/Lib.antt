@@ -1,0 +1,2 @@
+-- The rules of lines and frames.
+pub mod Lines

@@ -1,0 +1,122 @@
+// Where a tick stands (01, "Lines and frames"): its period, its line, its sync, and the tick after it.
+ghost use mathlib.Core.Path.{_≡_};
+ghost use mathlib.Core.Bool.{cond};
+ghost use Prim.Native.Nat.{_<_};
+ghost use lib.Dec.{ltb};
+ghost use Rattle.screen.specs.Parameters.{screenOf};
+ghost use Rattle.lines.specs.Lines.{isVSync, isVDisplay, lowIn, momentOf};
+ghost use Rattle.lines.specs.declared.Period.the-variants.{PreEqualise, VSync, PostEqualise, VBlank, VDisplay};
+
+// The five periods, in frame order.
+pub enum Period {
+    PreEqualise,
+    VSync,
+    PostEqualise,
+    VBlank,
+    VDisplay,
+}
+
+// What a place in the frame says of its tick, and the place after it: its half line and its number there.
+pub struct Moment {
+    pub vsync: bool,
+    pub vdisplay: bool,
+    pub visible: bool,
+    pub low: bool,
+    pub opens: bool,
+    pub closes: bool,
+    pub half: u64,
+    pub at: u64,
+}
+
+// A register as a count, with its bound.
+fn count(number: u32) -> u64
+    ensures same { λ r. ⌜ r ≡ number ⌝ }
+    ensures bound { λ r. ⌜ r < 0x100000000 ⌝ }
+{
+    number as u64
+}
+
+fn in_period(test: bool, period: Period, later: Period) -> Period
+    ensures chosen { λ r. ⌜ r ≡ cond test period later ⌝ }
+{
+    if test { period } else { later }
+}
+
+// The period of a half line, from the half lines before each period's end.
+fn period_of(half: u64, pre: u64, sync: u64, post: u64, blank: u64) -> Period
+    ensures period { λ r. ⌜ r ≡ cond (ltb half pre) PreEqualise (cond (ltb half sync) VSync (cond (ltb half post) PostEqualise (cond (ltb half blank) VBlank VDisplay))) ⌝ }
+{
+    let display = in_period(half < blank, Period::VBlank, Period::VDisplay);
+    let equal = in_period(half < post, Period::PostEqualise, display);
+    let low = in_period(half < sync, Period::VSync, equal);
+    in_period(half < pre, Period::PreEqualise, low)
+}
+
+fn is_vsync(period: Period) -> bool
+    ensures test { λ r. ⌜ r ≡ isVSync period ⌝ }
+{
+    match period {
+        Period::PreEqualise => false,
+        Period::VSync => true,
+        Period::PostEqualise => false,
+        Period::VBlank => false,
+        Period::VDisplay => false,
+    }
+}
+
+fn is_vdisplay(period: Period) -> bool
+    ensures test { λ r. ⌜ r ≡ isVDisplay period ⌝ }
+{
+    match period {
+        Period::PreEqualise => false,
+        Period::VSync => false,
+        Period::PostEqualise => false,
+        Period::VBlank => false,
+        Period::VDisplay => true,
+    }
+}
+
+// Composite sync is low: at is the tick's number in its half line, tick in its line.
+fn is_low(plain: bool, period: Period, at: u64, tick: u64, halfsync: u64, broadpulse: u64) -> bool
+    requires { ⌜ halfsync < 0x100000000 ⌝ }
+    ensures test { λ r. ⌜ r ≡ lowIn plain halfsync broadpulse period at tick ⌝ }
+{
+    match period {
+        Period::PreEqualise => !plain & (at < halfsync),
+        Period::VSync => plain | (at < broadpulse),
+        Period::PostEqualise => !plain & (at < halfsync),
+        Period::VBlank => tick < 2 * halfsync,
+        Period::VDisplay => tick < 2 * halfsync,
+    }
+}
+
+// The moment of a place: half is the half line's number in the frame, at the tick's in the half line. Any numbers: none can overflow.
+pub fn moment_of(params: [u32; 14], plain: bool, half: u32, at: u32) -> Moment
+    ensures moment { λ m. ⌜ m ≡ momentOf (screenOf params) plain half at ⌝ }
+{
+    let line = count(params[10]) / 2;
+    let pre = count(params[6]);
+    let sync = pre + count(params[5]);
+    let post = sync + count(params[7]);
+    let blank = post + count(params[8]);
+    let frame = blank + count(params[9]);
+    let halfsync = count(params[0]);
+    let from = 2 * halfsync + count(params[1]);
+    let to = from + count(params[2]);
+    let number = count(half);
+    let place = count(at);
+    let tick = base::choose((number + post) % 2 == 1, line + place, place);
+    let period = period_of(number, pre, sync, post, blank);
+    let vdisplay = is_vdisplay(period);
+    let next = base::choose(number + 1 < frame, number + 1, 0);
+    Moment {
+        vsync: is_vsync(period),
+        vdisplay,
+        visible: vdisplay & ((from <= tick) & (tick < to)),
+        low: is_low(plain, period, place, tick, halfsync, count(params[4])),
+        opens: (number == blank) & (place == 0),
+        closes: (frame <= number + 1) & (line <= place + 1),
+        half: base::choose(place + 1 < line, number, next),
+        at: base::choose(place + 1 < line, place + 1, 0),
+    }
+}
