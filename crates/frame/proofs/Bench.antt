@@ -8,7 +8,7 @@ use lib.Dec.{leb, leb→le}
 use lib.ListN.{getD, replicate, List·getD-eq-default}
 use Rattle.base.specs.Count.{run}
 use Rattle.base.proofs.Table.{entry}
-use Rattle.screen.specs.Parameters.{screenOf}
+use Rattle.units.specs.Parameters.{screenOf}
 use Rattle.screen.specs.Limits.{limitOf, laterLimit, Accepted}
 use Rattle.screen.specs.Totals.{totalsOf}
 use Rattle.screen.proofs.Laws.{accepted}

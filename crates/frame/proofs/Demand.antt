@@ -13,10 +13,10 @@ use Rattle.base.specs.Count.{count, some, run}
 use Rattle.base.proofs.Run.{run-length, run-append, run-same}
 use Rattle.control.specs.Control.{forcedBlank, transferring, increment, pixelBits}
 use Rattle.control.proofs.Laws.{increment-positive}
-use Rattle.screen.specs.Parameters.{rowLength}
+use Rattle.units.specs.Parameters.{rowLength}
 use Rattle.screen.specs.Limits.{Accepted}
 use Rattle.screen.specs.Totals.{frameTicks, frameVisible, frameTransfers, framePixels, roundedUp}
-use Rattle.screen.specs.declared.Screen.{Screen}
+use Rattle.units.specs.declared.Screen.{Screen}
 use Rattle.registers.specs.declared.Registers.{Registers}
 use Rattle.pixel.specs.Memory.{endsBeyond}
 use Rattle.pixel.specs.Dot.{dotAt}

@@ -10,10 +10,10 @@ use lib.Dec.{eqb}
 use Rattle.base.specs.Count.{some, run}
 use Rattle.base.proofs.Run.{run-append}
 use Rattle.control.specs.Control.{running}
-use Rattle.screen.specs.Parameters.{halfTicks, halvesToVDisplay, rowLength}
+use Rattle.units.specs.Parameters.{halfTicks, halvesToVDisplay, rowLength}
 use Rattle.screen.specs.Limits.{Accepted}
 use Rattle.screen.specs.Totals.{frameTicks, frameVisible}
-use Rattle.screen.specs.declared.Screen.{Screen}
+use Rattle.units.specs.declared.Screen.{Screen}
 use Rattle.registers.specs.declared.Registers.{Registers}
 use Rattle.lines.specs.Lines.{closes}
 use Rattle.generator.specs.Rows.{screen, visibleAt, taken, heldAddress, asks}

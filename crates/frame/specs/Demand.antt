@@ -7,7 +7,7 @@ use mathlib.Core.Path.{_≡_}
 use lib.ListN.{length}
 use Rattle.base.specs.Count.{count, run}
 use Rattle.control.specs.Control.{running, forcedBlank, transferring, increment, pixelBits}
-use Rattle.screen.specs.Parameters.{rowLength}
+use Rattle.units.specs.Parameters.{rowLength}
 use Rattle.screen.specs.Totals.{frameTicks, frameVisible, frameTransfers, framePixels}
 use Rattle.screen.specs.declared.Totals.{Totals}
 use Rattle.registers.specs.declared.Registers.{Registers}

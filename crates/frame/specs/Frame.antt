@@ -7,7 +7,7 @@ use mathlib.Core.Path.{_≡_}
 use lib.Dec.{eqb}
 use Rattle.base.specs.Count.{some, run}
 use Rattle.control.specs.Control.{forcedBlank, transferring, increment, pixelBits}
-use Rattle.screen.specs.Parameters.{rowLength}
+use Rattle.units.specs.Parameters.{rowLength}
 use Rattle.screen.specs.Totals.{frameTicks, frameVisible, framePixels}
 use Rattle.registers.specs.declared.Registers.{Registers}
 use Rattle.pixel.specs.Memory.{endsBeyond}

@@ -9,7 +9,7 @@ use lib.Dec.{eqb}
 use lib.ListN.{getD}
 use Rattle.base.specs.Count.{count, some, run}
 use Rattle.control.specs.Control.{running, transferring, pixelBits}
-use Rattle.screen.specs.declared.Screen.{Screen}
+use Rattle.units.specs.declared.Screen.{Screen}
 use Rattle.registers.specs.declared.Registers.{Registers}
 use Rattle.pixel.specs.Memory.{endsBeyond}
 use Rattle.pixel.specs.Dot.{dotAt, black}
@@ -24,7 +24,7 @@ use Rattle.generator.specs.declared.Generator.{Generator}
 use Rattle.generator.specs.declared.Signals.{Signals}
 use Rattle.generator.specs.declared.Ticked.{Ticked}
 use Rattle.generator.specs.declared.rows.Stand.{Stand}
-use Rattle.screen.specs.Parameters.{halfTicks}
+use Rattle.units.specs.Parameters.{halfTicks}
 use Rattle.screen.proofs.Laws.{narrow}
 use Rattle.lines.specs.Lines.{visible, tickNumber, momentOf}
 use Rattle.generator.specs.Sound.{shownBefore}

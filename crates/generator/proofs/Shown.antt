@@ -9,9 +9,9 @@ use native.Mathlib.Omega.{arith}
 use borrow.Author.Tests.{lt-ltb, le-ltb, le-leb, lt-leb, eq-eqb, ne-eqb, ltb-true, ltb-false}
 use lib.Dec.{ltb, leb}
 use Rattle.base.specs.Count.{count}
-use Rattle.screen.specs.Parameters.{halfTicks, displayFrom, halvesToVBlank, halvesToVDisplay}
+use Rattle.units.specs.Parameters.{halfTicks, displayFrom, halvesToVBlank, halvesToVDisplay}
 use Rattle.screen.specs.Limits.{Accepted}
-use Rattle.screen.specs.declared.Screen.{Screen}
+use Rattle.units.specs.declared.Screen.{Screen}
 use Rattle.lines.specs.Lines.{period, isVDisplay, secondHalf, inLine, inDisplay, visible, tickNumber}
 use Rattle.generator.specs.Sound.{shownBefore}
 use Rattle.lines.specs.declared.Period.the-variants.{PreEqualise, VSync, PostEqualise, VBlank, VDisplay}

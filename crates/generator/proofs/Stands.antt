@@ -7,10 +7,10 @@ use lib.Dec.{ltb, eqb}
 use Rattle.base.specs.Sum.{rolled}
 use Rattle.control.specs.Control.{plain, forcedBlank, transferring, increment}
 use Rattle.control.proofs.Laws.{increment-positive}
-use Rattle.screen.specs.Parameters.{rowLength, screenOf}
+use Rattle.units.specs.Parameters.{rowLength, screenOf}
 use Rattle.screen.specs.Totals.{frameVisible}
 use Rattle.screen.specs.Limits.{Bounded}
-use Rattle.screen.specs.declared.Screen.{Screen}
+use Rattle.units.specs.declared.Screen.{Screen}
 use Rattle.screen.proofs.Laws.{narrow}
 use Rattle.registers.specs.declared.Registers.{Registers}
 use Rattle.lines.specs.Lines.{visible, opens, momentOf}

@@ -5,9 +5,9 @@ use mathlib.Core.Bool.{Bool, cond, _&&_}
 use lib.Dec.{ltb, leb, eqb}
 use Rattle.base.specs.Sum.{rolled}
 use Rattle.control.specs.Control.{transferring, increment}
-use Rattle.screen.specs.Parameters.{screenOf, halfTicks, displayFrom, halvesToVDisplay, rowLength}
+use Rattle.units.specs.Parameters.{screenOf, halfTicks, displayFrom, halvesToVDisplay, rowLength}
 use Rattle.screen.specs.Totals.{frameVisible}
-use Rattle.screen.specs.declared.Screen.{Screen}
+use Rattle.units.specs.declared.Screen.{Screen}
 use Rattle.registers.specs.declared.Registers.{Registers}
 use Rattle.lines.specs.Lines.{visible, opens, tickNumber}
 use Rattle.generator.specs.declared.Generator.{Generator}

@@ -5,9 +5,9 @@ use mathlib.Core.Bool.{Bool, true, false}
 use mathlib.Core.Path.{_≡_}
 use Rattle.base.specs.Count.{count}
 use Rattle.control.specs.Control.{running, outside}
-use Rattle.screen.specs.Parameters.{halfTicks, halvesInFrame}
+use Rattle.units.specs.Parameters.{halfTicks, halvesInFrame}
 use Rattle.screen.specs.Limits.{Bounded, Accepted}
-use Rattle.screen.specs.declared.Screen.{Screen}
+use Rattle.units.specs.declared.Screen.{Screen}
 use Rattle.registers.specs.File.{Held}
 use Rattle.registers.specs.declared.Registers.{Registers}
 use Rattle.lines.specs.Lines.{visible, tickNumber}

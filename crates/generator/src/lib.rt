@@ -9,8 +9,8 @@ ghost use Rattle.generator.specs.Stand.{Runs};
 use pixel::Dot;
 use pixel::Sums;
 use registers::Registers;
-use screen::HalfLines;
-use screen::ScreenUnits;
+use units::HalfLines;
+use units::ScreenUnits;
 
 // The next tick's half line and its number in that half line; the frame's visible ticks so far; the last address; the request at the
 // last visible tick; the checksums.

@@ -13,8 +13,8 @@ use crate::rows::Stand;
 use pixel::Dot;
 use pixel::Sums;
 use registers::Registers;
-use screen::HalfLines;
-use screen::ScreenUnits;
+use units::HalfLines;
+use units::ScreenUnits;
 
 // Refusal 20: the last of the four pixels ends beyond the memory where any does.
 pub fn is_refused(r: Registers, g: Generator, t: Stand, memory: &[u8]) -> bool

@@ -11,7 +11,7 @@ ghost use Rattle.generator.specs.Stand.{Runs, Stands};
 use crate::Generator;
 use lines::Moment;
 use registers::Registers;
-use screen::Screen;
+use units::Screen;
 
 pub struct Stand {
     pub screen: Screen,
@@ -48,7 +48,7 @@ pub fn stand_of(r: Registers, g: Generator) -> Stand
     let half = g.half.0;
     let at = g.at.0;
     let seen = g.seen.0;
-    let s = screen::screen_of(params);
+    let s = units::screen_of(params);
     let row = s.meminit.0 + s.transferdelay.0;
     let plain = control::is_plain(r.control);
     let moment = lines::moment_of(params, plain, half as u32, at as u32);

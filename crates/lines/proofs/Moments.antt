@@ -5,7 +5,7 @@ use mathlib.Core.List.{List}
 use mathlib.Core.Path.{_≡_}
 use lib.Dec.{ltb, leb, eqb}
 use lib.ListN.{getD}
-use Rattle.screen.specs.Parameters.{screenOf}
+use Rattle.units.specs.Parameters.{screenOf}
 use Rattle.lines.specs.Lines.{period, isVSync, isVDisplay, secondHalf, inLine, visible, lowIn, opens, closes, nextHalf, nextAt, momentOf}
 use Rattle.lines.specs.declared.Moment.{Moment}
 use Rattle.lines.specs.declared.Period.{Period}

@@ -3,7 +3,7 @@ ghost use mathlib.Core.Path.{_≡_};
 ghost use mathlib.Core.Bool.{cond};
 ghost use Prim.Native.Nat.{_<_};
 ghost use lib.Dec.{ltb};
-ghost use Rattle.screen.specs.Parameters.{screenOf};
+ghost use Rattle.units.specs.Parameters.{screenOf};
 ghost use Rattle.lines.specs.Lines.{isVSync, isVDisplay, lowIn, momentOf};
 ghost use Rattle.lines.specs.declared.Period.the-variants.{PreEqualise, VSync, PostEqualise, VBlank, VDisplay};
 

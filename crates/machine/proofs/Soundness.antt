@@ -6,7 +6,7 @@ use mathlib.Core.Path.{_≡_, refl, sym, _∙_}
 use lib.Dec.{eqb}
 use borrow.Author.Tests.{eqb-true, not-false}
 use Rattle.control.specs.Control.{running, outside}
-use Rattle.screen.specs.Parameters.{screenOf}
+use Rattle.units.specs.Parameters.{screenOf}
 use Rattle.screen.specs.Limits.{Accepted, limitOf}
 use Rattle.screen.proofs.Laws as limits
 use Rattle.registers.specs.Map.{placeOf, isControl, isParameter}

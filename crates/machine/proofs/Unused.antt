@@ -9,7 +9,7 @@ use Rattle.base.specs.Count.{some, run}
 use Rattle.base.proofs.Run.{run-same}
 use Rattle.control.specs.Control.{field, bit, running, plain, forcedBlank, transferring, cursorOn, outside, depth, increment}
 use Rattle.screen.specs.Limits.{laterLimit, limitOf}
-use Rattle.screen.specs.declared.Screen.{Screen}
+use Rattle.units.specs.declared.Screen.{Screen}
 use Rattle.registers.specs.declared.Registers.{Registers}
 use Rattle.pixel.specs.Memory.{pixelShown}
 use Rattle.pixel.specs.Dot.{dotAt}

@@ -2,7 +2,7 @@
 -- changes the sync alone. Assumes nothing.
 use Prim.Native.Nat.{ℕ, _/_, _%_}
 use mathlib.Core.Path.{_≡_}
-use Rattle.screen.specs.declared.Screen.{Screen}
+use Rattle.units.specs.declared.Screen.{Screen}
 use Rattle.registers.specs.declared.Registers.{Registers}
 use Rattle.generator.specs.Rows.{screen}
 use Rattle.generator.specs.declared.Ticked.{Ticked}

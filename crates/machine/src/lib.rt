@@ -42,7 +42,7 @@ fn start_limit(r: Registers, p: Place, value: u32) -> u32
     ensures refusal { λ n. ⌜ n ≡ startLimit r p value ⌝ }
 {
     let params = r.params;
-    let s = screen::screen_of(params);
+    let s = units::screen_of(params);
     let checked = registers::is_control(p) & control::is_running(value);
     base::first(checked, screen::limit(value, s), 0)
 }

@@ -6,7 +6,7 @@ use mathlib.Core.Path.{_≡_}
 use lib.Dec.{leb}
 use Rattle.base.specs.Count.{some}
 use Rattle.control.specs.Control.{forcedBlank, transferring, increment, pixelBits}
-use Rattle.screen.specs.Parameters.{rowLength}
+use Rattle.units.specs.Parameters.{rowLength}
 use Rattle.screen.specs.Limits.{Accepted}
 use Rattle.screen.specs.Totals.{frameVisible}
 use Rattle.registers.specs.declared.Registers.{Registers}

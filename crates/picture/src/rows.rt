@@ -13,8 +13,8 @@ use crate::span::Stretch;
 use generator::Generator;
 use pixel::Sums;
 use registers::Registers;
-use screen::HalfLines;
-use screen::ScreenUnits;
+use units::HalfLines;
+use units::ScreenUnits;
 
 // The numbers of a frame: ticks of a line's Display, displayed lines, visible ticks, R, the first address and the step to the next.
 pub struct Plan {
@@ -42,7 +42,7 @@ pub fn plan_of(r: Registers) -> Plan
     ensures plan { λ p. ⌜ p ≡ planOf r ⌝ }
 {
     let params = r.params;
-    let s = screen::screen_of(params);
+    let s = units::screen_of(params);
     let display = s.display.0;
     let lines = s.vdisplay.0 / 2;
     let increment = control::address_increment(r.control);

@@ -4,12 +4,12 @@ use mathlib.Core.Path.{_≡_}
 use native.Mathlib.Nat.{min-eq-left, mul-le-mul}
 use native.Mathlib.Omega.{arith}
 use Rattle.base.specs.Sum.{capped}
-use Rattle.screen.specs.Parameters.{halfTicks, halvesInFrame, rowLength}
+use Rattle.units.specs.Parameters.{halfTicks, halvesInFrame, rowLength}
 use Rattle.screen.specs.Limits.{Bounded}
 use Rattle.screen.specs.Totals.{frameTicks, frameVisible, framePixels, roundedUp, frameTotals}
-use Rattle.screen.specs.declared.ScreenUnits.{ScreenUnits}
-use Rattle.screen.specs.declared.Pixels.{Pixels}
-use Rattle.screen.specs.declared.Screen.{Screen}
+use Rattle.units.specs.declared.ScreenUnits.{ScreenUnits}
+use Rattle.units.specs.declared.Pixels.{Pixels}
+use Rattle.units.specs.declared.Screen.{Screen}
 use Rattle.screen.specs.declared.Totals.{Totals}
 
 module _ (s : Screen) (b : Bounded 0xFFFFFF s) where

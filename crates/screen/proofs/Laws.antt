@@ -5,10 +5,10 @@ use mathlib.Core.Bool.{Bool, true, false, not, cond, _||_, true≢false}
 use native.Mathlib.Omega.{arith}
 use lib.Dec.{ltb, eqb}
 use borrow.Author.Tests.{ltb-true, ltb-false, eqb-true, eqb-false, not-false, lt-ltb, le-ltb, eq-eqb, ne-eqb}
-use Rattle.screen.specs.Parameters.{displayFrom, halfTicks}
+use Rattle.units.specs.Parameters.{displayFrom, halfTicks}
 use Rattle.screen.specs.Limits.{most, outOfRange, refuses10, refuses11, refuses12, refuses13, refuses14, refuses15, refuses16, refuses17, laterLimit, limitOf, Within, Bounded, Accepted}
 use Rattle.screen.specs.Totals.{frameTotals, refused, totalsOf}
-use Rattle.screen.specs.declared.Screen.{Screen}
+use Rattle.units.specs.declared.Screen.{Screen}
 
 -- neither of two tests holds
 both : (a b : Bool) → (a || b) ≡ false → (a ≡ false) × (b ≡ false)

@@ -1,5 +1,3 @@
--- The rules of a screen: units, parameters, limits, totals.
-pub mod Units
-pub mod Parameters
+-- The rules of a screen: limits and totals.
 pub mod Limits
 pub mod Totals

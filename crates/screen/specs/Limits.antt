@@ -4,8 +4,8 @@ use mathlib.Core.Path.{_≡_}
 use mathlib.Core.Bool.{Bool, not, cond, _||_}
 use lib.Dec.{ltb, eqb}
 use Rattle.control.specs.Control.{shiftPeriod}
-use Rattle.screen.specs.Parameters.{displayFrom, halfTicks}
-use Rattle.screen.specs.declared.Screen.{Screen}
+use Rattle.units.specs.Parameters.{displayFrom, halfTicks}
+use Rattle.units.specs.declared.Screen.{Screen}
 
 -- the largest screen parameter
 abbrev pub most : ℕ

@@ -2,11 +2,11 @@
 use Prim.Native.Nat.{ℕ, _+_, _-_, _*_, _/_}
 use mathlib.Core.Bool.{cond}
 use lib.Dec.{eqb}
-use Rattle.screen.specs.Parameters.{halfTicks, halvesInFrame, rowLength}
+use Rattle.units.specs.Parameters.{halfTicks, halvesInFrame, rowLength}
 use Rattle.screen.specs.Limits.{limitOf}
-use Rattle.screen.specs.declared.ScreenUnits.{ScreenUnits}
-use Rattle.screen.specs.declared.Pixels.{Pixels}
-use Rattle.screen.specs.declared.Screen.{Screen}
+use Rattle.units.specs.declared.ScreenUnits.{ScreenUnits}
+use Rattle.units.specs.declared.Pixels.{Pixels}
+use Rattle.units.specs.declared.Screen.{Screen}
 use Rattle.screen.specs.declared.Totals.{Totals}
 
 -- half the line time times the sum of the five half-line counts

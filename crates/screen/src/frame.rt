@@ -2,11 +2,11 @@
 ghost use mathlib.Core.Path.{_≡_};
 ghost use Rattle.screen.specs.Limits.{Bounded};
 ghost use Rattle.screen.specs.Totals.{frameTotals, refused, totalsOf};
-use crate::HalfLines;
-use crate::Pixels;
-use crate::Screen;
-use crate::ScreenUnits;
 use crate::Totals;
+use units::HalfLines;
+use units::Pixels;
+use units::Screen;
+use units::ScreenUnits;
 
 // What the frame comes to where 24 bits hold every parameter.
 fn count(s: Screen) -> Totals
@@ -18,9 +18,9 @@ fn count(s: Screen) -> Totals
     );
     let row = s.meminit.0 + s.transferdelay.0;
     let linetime = s.linetime;
-    let ticks = crate::units_of(lines, linetime);
+    let ticks = units::units_of(lines, linetime);
     let visible = ScreenUnits(base::product(s.display.0, s.vdisplay.0 / 2));
-    let pixels = crate::pixels_of(visible);
+    let pixels = units::pixels_of(visible);
     Totals {
         refusal: 0,
         ticks,

@@ -8,8 +8,8 @@ ghost use Rattle.speed.specs.Speed.{file, shown};
 use generator::Generator;
 use pixel::Sums;
 use registers::Registers;
-use screen::HalfLines;
-use screen::ScreenUnits;
+use units::HalfLines;
+use units::ScreenUnits;
 
 // The refusal or 0, and the three sums.
 #[repr(C)]

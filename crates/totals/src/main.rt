@@ -29,7 +29,7 @@ fn answer(bytes: &[u8]) {
     let sheet = sheet::read(bytes);
     if sheet.refusal == 0 {
         let values = sheet.values;
-        let s = screen::screen_of(values);
+        let s = units::screen_of(values);
         shown(screen::frame_totals(EIGHT_BITS, s));
         return;
     }

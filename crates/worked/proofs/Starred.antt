@@ -1,7 +1,7 @@
 -- Every starred row holds of the rules: one statement, by computation. Assumes nothing.
 use mathlib.Core.Path.{refl}
 use Rattle.base.specs.Count
-use Rattle.screen.specs.Parameters
+use Rattle.units.specs.Parameters
 use Rattle.screen.specs.Limits
 use Rattle.screen.specs.Totals
 use Rattle.registers.specs.Map

@@ -5,7 +5,7 @@ use mathlib.Core.Bool.{Bool, not, cond}
 use mathlib.Core.List.{List, [], _∷_}
 use mathlib.Core.Path.{_≡_}
 use lib.ListN.{length, set, replicate}
-use Rattle.screen.specs.Parameters.{screenOf}
+use Rattle.units.specs.Parameters.{screenOf}
 use Rattle.screen.specs.Limits.{limitOf}
 use Rattle.screen.specs.Totals.{totalsOf}
 use Rattle.screen.specs.declared.Totals.{Totals}

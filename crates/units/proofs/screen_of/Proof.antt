@@ -1,9 +1,9 @@
--- `screen::screen_of` meets its contract: fourteen registers, each in its unit.
+-- `units::screen_of` meets its contract: fourteen registers, each in its unit.
 use mathlib.Core.Path.{refl}
 use borrow.Author.Needs.{needs}
-use Rattle.screen.specs.Parameters.{screenOf}
-use Rattle.screen.proofs.screen_of.Statement.{statement}
-use Rattle.screen.proofs.screen_of.Tie as tie
+use Rattle.units.specs.Parameters.{screenOf}
+use Rattle.units.proofs.screen_of.Statement.{statement}
+use Rattle.units.proofs.screen_of.Tie as tie
 
 pub screen-of-spec : {M : Type 1} → statement M
 unfolding screenOf

@@ -1,0 +1,11 @@
+-- `units::pixels_of` meets its contract: the product of `base`, in pixels.
+use borrow.Author.Needs.{needs}
+use Rattle.units.proofs.pixels_of.Statement.{statement}
+use Rattle.units.proofs.pixels_of.Tie as tie
+
+pub pixels-of-spec : {M : Type 1} → statement M
+pixels-of-spec =
+    tie.close
+    (tie.spec
+    (λ c κs. search needs)
+    (λ c. cc))

@@ -1,0 +1,11 @@
+-- `units::units_of` meets its contract: the product of `base`, in screen units.
+use borrow.Author.Needs.{needs}
+use Rattle.units.proofs.units_of.Statement.{statement}
+use Rattle.units.proofs.units_of.Tie as tie
+
+pub units-of-spec : {M : Type 1} → statement M
+units-of-spec =
+    tie.close
+    (tie.spec
+    (λ c κs. search needs)
+    (λ c. cc))

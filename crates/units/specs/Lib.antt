@@ -1,0 +1,3 @@
+-- The rules of a screen's counts: units and parameters.
+pub mod Units
+pub mod Parameters

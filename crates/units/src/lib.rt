@@ -1,0 +1,67 @@
+// A screen's counts in three units (01, "Starting a screen") and its fourteen parameters (01, "Register map").
+ghost use mathlib.Core.Path.{_≡_};
+ghost use Rattle.units.specs.Units.{pixelsOf, unitsOf};
+ghost use Rattle.units.specs.Parameters.{screenOf};
+
+// Three counts that never stand in for one another. One screen unit is one tick.
+#[repr(C)]
+pub struct ScreenUnits(pub u64);
+
+#[repr(C)]
+pub struct HalfLines(pub u64);
+
+pub struct Pixels(pub u64);
+
+// The fourteen parameters, in register order.
+pub struct Screen {
+    pub halfsync: ScreenUnits,
+    pub backporch: ScreenUnits,
+    pub display: ScreenUnits,
+    pub shortdisplay: ScreenUnits,
+    pub broadpulse: ScreenUnits,
+    pub vsync: HalfLines,
+    pub vpreequalise: HalfLines,
+    pub vpostequalise: HalfLines,
+    pub vblank: HalfLines,
+    pub vdisplay: HalfLines,
+    pub linetime: ScreenUnits,
+    pub linestart: ScreenUnits,
+    pub meminit: ScreenUnits,
+    pub transferdelay: ScreenUnits,
+}
+
+// One screen unit is four pixels.
+pub fn pixels_of(units: ScreenUnits) -> Pixels
+    ensures pixels { λ r. ⌜ r ≡ pixelsOf units ⌝ }
+{
+    Pixels(base::product(4, units.0))
+}
+
+// A half line is half the line time.
+pub fn units_of(lines: HalfLines, linetime: ScreenUnits) -> ScreenUnits
+    ensures units { λ r. ⌜ r ≡ unitsOf lines linetime ⌝ }
+{
+    ScreenUnits(base::product(linetime.0 / 2, lines.0))
+}
+
+// The registers #021 to #02E as a screen.
+pub fn screen_of(params: [u32; 14]) -> Screen
+    ensures screen { λ r. ⌜ r ≡ screenOf params ⌝ }
+{
+    Screen {
+        halfsync: ScreenUnits(params[0] as u64),
+        backporch: ScreenUnits(params[1] as u64),
+        display: ScreenUnits(params[2] as u64),
+        shortdisplay: ScreenUnits(params[3] as u64),
+        broadpulse: ScreenUnits(params[4] as u64),
+        vsync: HalfLines(params[5] as u64),
+        vpreequalise: HalfLines(params[6] as u64),
+        vpostequalise: HalfLines(params[7] as u64),
+        vblank: HalfLines(params[8] as u64),
+        vdisplay: HalfLines(params[9] as u64),
+        linetime: ScreenUnits(params[10] as u64),
+        linestart: ScreenUnits(params[11] as u64),
+        meminit: ScreenUnits(params[12] as u64),
+        transferdelay: ScreenUnits(params[13] as u64),
+    }
+}
