@@ -67,6 +67,9 @@ fn running_tick(r: Registers, g: Generator, memory: &[u8]) -> Ticked
     ensures ticked { λ n. ⌜ n ≡ tickOf r (now (memory .entry)) g ⌝ }
 {
     let t = rows::stand_of(r, g);
+    let dots = output::dots_of(r, g, t, memory);
+    let sums = output::sums_of(r, g, t, memory, dots);
+    let next = output::next_of(r, g, t, sums);
     let refused = output::is_refused(r, g, t, memory);
     if refused {
         return Ticked {
@@ -75,9 +78,6 @@ fn running_tick(r: Registers, g: Generator, memory: &[u8]) -> Ticked
             next: g,
         };
     }
-    let dots = output::dots_of(r, g, t, memory);
-    let sums = output::sums_of(r, g, t, memory, dots);
-    let next = output::next_of(r, g, t, sums);
     let signals = output::signals_of(r, g, t, dots);
     Ticked {
         refusal: 0,

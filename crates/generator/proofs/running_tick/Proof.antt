@@ -13,19 +13,20 @@ running-tick-spec =
     (λ c κs. search needs)
     (λ c κs. search needs)
     (λ c κs. search needs)
+    (λ c κs. search needs)
+    (λ c κs. search needs)
+    (λ c κs. search needs)
     (λ c.
-    let start = c .before .before .before .before .before in
+    let start = c .before .before .before .before .before .before .before .before in
     tick-20 (start .args .r) (start .args .g) (start .args .memory .now) (start .pre .runs) _ (c .silence .ensures)
     (sym (c .before .before .is-refused .ensures) ∙ c .before .if1 .taken))
     (λ c κs. search needs)
-    (λ c κs. search needs)
-    (λ c κs. search needs)
-    (λ c κs. search needs)
     (λ c.
-    let dots = c .before .before .before in
-    let start = dots .before .before .before .before .before in
+    let next = c .before .before .before in
+    let dots = next .before .before in
+    let start = dots .before .before .before in
     tick-0 (start .args .r) (start .args .g) (start .args .memory .now) (start .pre .runs)
-    (sym (dots .before .before .is-refused .ensures) ∙ dots .before .if1 .left) _ _ _
+    (sym (c .before .before .is-refused .ensures) ∙ c .before .if1 .left) _ _ _
     (c .signals-of .ensures ∙ ap (signalsWith (start .args .r) (start .args .g)) (dots .dots-of .ensures))
-    (c .before .before .sums-of .ensures)
-    (c .before .next-of .ensures)))
+    (next .before .sums-of .ensures)
+    (next .next-of .ensures)))
