@@ -1,0 +1,3 @@
+-- Laws of the audiogram's picture.
+pub mod Cases
+pub mod Laying

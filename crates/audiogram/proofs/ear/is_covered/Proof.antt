@@ -1,0 +1,18 @@
+use Rattle.audiogram.specs.Ear.{coveredAt}
+use borrow.Author.Needs.{needs}
+use Rattle.audiogram.proofs.ear.is_covered.Statement.{statement}
+use Rattle.audiogram.proofs.ear.is_covered.Tie as tie
+
+pub is-covered-spec : {M : Type 1} → statement M
+unfolding coveredAt
+is-covered-spec =
+    tie.close
+    (tie.spec
+    (λ c κs. search needs)
+    (λ c κs. search needs)
+    (λ c κs. search needs)
+    (λ c κs. search needs)
+    (λ c κs. search needs)
+    (λ c. search needs)
+    (λ c κs. search needs)
+    (λ c. cc))

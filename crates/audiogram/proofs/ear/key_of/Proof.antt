@@ -1,0 +1,9 @@
+use Rattle.audiogram.proofs.ear.key_of.Statement.{statement}
+use Rattle.audiogram.proofs.ear.key_of.Tie as tie
+
+pub key-of-spec : {M : Type 1} → statement M
+key-of-spec =
+    tie.close
+    (tie.spec
+    (λ c. cc)
+    (λ c. cc))

@@ -1,0 +1,16 @@
+use borrow.Author.Needs.{needs}
+use Rattle.audiogram.proofs.ear.point_of.Statement.{statement}
+use Rattle.audiogram.proofs.ear.point_of.Tie as tie
+
+pub point-of-spec : {M : Type 1} → statement M
+point-of-spec =
+    tie.close
+    (tie.spec
+    (λ c. search needs)
+    (λ c κs. search needs)
+    (λ c. search needs)
+    (λ c. search needs)
+    (λ c. search needs)
+    (λ c. search needs)
+    (λ c. search needs)
+    (λ c. cc))

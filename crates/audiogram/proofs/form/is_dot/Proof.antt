@@ -1,0 +1,16 @@
+use Rattle.audiogram.specs.Form.{dot}
+use borrow.Author.Needs.{needs}
+use Rattle.audiogram.proofs.form.is_dot.Statement.{statement}
+use Rattle.audiogram.proofs.form.is_dot.Tie as tie
+
+pub is-dot-spec : {M : Type 1} → statement M
+unfolding dot
+is-dot-spec =
+    tie.close
+    (tie.spec
+    (λ c κs. search needs)
+    (λ c. search needs)
+    (λ c. search needs)
+    (λ c. search needs)
+    (λ c κs. search needs)
+    (λ c. cc))

@@ -1,0 +1,13 @@
+use Rattle.audiogram.specs.Form.{grid}
+use borrow.Author.Needs.{needs}
+use Rattle.audiogram.proofs.form.is_grid.Statement.{statement}
+use Rattle.audiogram.proofs.form.is_grid.Tie as tie
+
+pub is-grid-spec : {M : Type 1} → statement M
+unfolding grid
+is-grid-spec =
+    tie.close
+    (tie.spec
+    (λ c κs. search needs)
+    (λ c κs. search needs)
+    (λ c. cc))

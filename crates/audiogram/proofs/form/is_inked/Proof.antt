@@ -1,0 +1,18 @@
+use Rattle.audiogram.specs.Form.{inked}
+use borrow.Author.Needs.{needs}
+use Rattle.audiogram.proofs.form.is_inked.Statement.{statement}
+use Rattle.audiogram.proofs.form.is_inked.Tie as tie
+
+pub is-inked-spec : {M : Type 1} → statement M
+unfolding inked
+is-inked-spec =
+    tie.close
+    (tie.spec
+    (λ c κs. search needs)
+    (λ c. search needs)
+    (λ c κs. search needs)
+    (λ c. search needs)
+    (λ c κs. search needs)
+    (λ c. search needs)
+    (λ c. search needs)
+    (λ c. cc))

@@ -1,0 +1,18 @@
+use Rattle.audiogram.specs.Form.{labelled}
+use borrow.Author.Needs.{needs}
+use Rattle.audiogram.proofs.form.is_label.Statement.{statement}
+use Rattle.audiogram.proofs.form.is_label.Tie as tie
+
+pub is-label-spec : {M : Type 1} → statement M
+unfolding labelled
+is-label-spec =
+    tie.close
+    (tie.spec
+    (λ c. search needs)
+    (λ c. search needs)
+    (λ c. search needs)
+    (λ c. search needs)
+    (λ c. search needs)
+    (λ c. search needs)
+    (λ c κs. search needs)
+    (λ c. cc))

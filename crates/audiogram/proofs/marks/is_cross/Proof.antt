@@ -1,0 +1,12 @@
+use borrow.Author.Needs.{needs}
+use Rattle.audiogram.proofs.marks.is_cross.Statement.{statement}
+use Rattle.audiogram.proofs.marks.is_cross.Tie as tie
+
+pub is-cross-spec : {M : Type 1} → statement M
+is-cross-spec =
+    tie.close
+    (tie.spec
+    (λ c κs. search needs)
+    (λ c κs. search needs)
+    (λ c κs. search needs)
+    (λ c. cc))

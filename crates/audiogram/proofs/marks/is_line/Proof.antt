@@ -1,0 +1,23 @@
+use Rattle.audiogram.specs.Marks.{line}
+use borrow.Author.Needs.{needs}
+use Rattle.audiogram.proofs.marks.is_line.Statement.{statement}
+use Rattle.audiogram.proofs.marks.is_line.Tie as tie
+
+pub is-line-spec : {M : Type 1} → statement M
+unfolding line
+is-line-spec =
+    tie.close
+    (tie.spec
+    (λ c κs. search needs)
+    (λ c κs. search needs)
+    (λ c κs. search needs)
+    (λ c κs. search needs)
+    (λ c. search needs)
+    (λ c κs. search needs)
+    (λ c κs. search needs)
+    (λ c κs. search needs)
+    (λ c κs. search needs)
+    (λ c. search needs)
+    (λ c κs. search needs)
+    (λ c κs. search needs)
+    (λ c. cc))

@@ -1,0 +1,10 @@
+use borrow.Author.Needs.{needs}
+use Rattle.audiogram.proofs.marks.is_ring.Statement.{statement}
+use Rattle.audiogram.proofs.marks.is_ring.Tie as tie
+
+pub is-ring-spec : {M : Type 1} → statement M
+is-ring-spec =
+    tie.close
+    (tie.spec
+    (λ c κs. search needs)
+    (λ c. cc))

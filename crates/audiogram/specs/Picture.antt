@@ -1,0 +1,44 @@
+-- The picture: an entry for each pixel, four pixels to a byte, least significant bits first. Assumes nothing.
+use Prim.Native.Nat.{ℕ, _+_, _*_, _/_, _%_, min}
+use mathlib.Core.Bool.{cond}
+use mathlib.Core.List.{List, _++_}
+use lib.ListN.{length, drop}
+use mathlib.Core.Bool.{true, false}
+use Rattle.base.specs.Count.{run}
+use Rattle.audiogram.specs.Ear.{shows}
+use Rattle.audiogram.specs.Form.{form}
+use Rattle.audiogram.specs.declared.marks.Point.{Point}
+
+-- the palette entries: paper, right ear, left ear, form
+abbrev pub paperEntry : ℕ
+paperEntry = 0
+
+abbrev pub rightEntry : ℕ
+rightEntry = 1
+
+abbrev pub leftEntry : ℕ
+leftEntry = 2
+
+abbrev pub formEntry : ℕ
+formEntry = 3
+
+-- THE ENTRY OF A PIXEL: the right ear over the left, both over the form
+unfoldable pub entryAt : List ℕ → List ℕ → Point → ℕ
+entryAt right left p =
+    cond (shows true right p) rightEntry (cond (shows false left p) leftEntry (cond (form p) formEntry paperEntry))
+
+-- 640 by 480 pixels of 2 bits
+abbrev pub size : ℕ
+size = 76800
+
+-- byte i: 160 bytes to a line
+unfoldable pub byteAt : List ℕ → List ℕ → ℕ → ℕ
+byteAt right left i =
+    entryAt right left (record { x = i % 160 * 4; y = i / 160 }) +
+    4 * entryAt right left (record { x = i % 160 * 4 + 1; y = i / 160 }) +
+    16 * entryAt right left (record { x = i % 160 * 4 + 2; y = i / 160 }) +
+    64 * entryAt right left (record { x = i % 160 * 4 + 3; y = i / 160 })
+
+-- a memory with the picture in its first bytes, as many as it has, and the rest as it was
+unfoldable pub drawn : List ℕ → List ℕ → List ℕ → List ℕ
+drawn right left memory = run (byteAt right left) 0 (min (length memory) size) ++ drop size memory

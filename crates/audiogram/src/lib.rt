@@ -1,0 +1,70 @@
+// A clinical audiogram in picture memory: 640 by 480 pixels of 2 bits, four to a byte, least significant bits first.
+mod ear;
+mod form;
+mod marks;
+
+ghost use mathlib.Core.Path.{_≡_};
+ghost use Prim.Native.Nat.{_<_, _≤_, min};
+ghost use Rattle.audiogram.specs.Picture.{entryAt, byteAt, drawn, size};
+use crate::marks::Point;
+
+// Levels by frequency, 125 to 8000 Hz: number n is -10 + 5 x n dB hearing level, up to 26; a larger one is not measured.
+pub struct Chart {
+    pub right: [u8; 11],
+    pub left: [u8; 11],
+}
+
+// The bytes of the picture.
+pub const SIZE: usize = 76800;
+
+// The palette entry of a pixel: 1 right ear, 2 left ear, 3 form, 0 paper. The right ear lies over the left.
+fn entry_at(right: &[u8; 11], left: &[u8; 11], p: Point) -> u8
+    ensures entry { λ r. ⌜ r ≡ entryAt (now (right .entry)) (now (left .entry)) p ⌝ }
+    ensures bound { λ r. ⌜ r ≤ 3 ⌝ }
+{
+    if ear::shows(true, right, p) {
+        return 1;
+    }
+    if ear::shows(false, left, p) {
+        return 2;
+    }
+    if form::shows(p) {
+        return 3;
+    }
+    0
+}
+
+// Byte i of the picture: four pixels of one line.
+fn byte_at(right: &[u8; 11], left: &[u8; 11], i: usize) -> u8
+    requires { ⌜ i < size ⌝ }
+    ensures byte { λ r. ⌜ r ≡ byteAt (now (right .entry)) (now (left .entry)) i ⌝ }
+{
+    let x = (i % 160 * 4) as u16;
+    let y = (i / 160) as u16;
+    let first = entry_at(right, left, Point { x, y });
+    let second = entry_at(right, left, Point { x: x + 1, y });
+    let third = entry_at(right, left, Point { x: x + 2, y });
+    let fourth = entry_at(right, left, Point { x: x + 3, y });
+    first + 4 * second + 16 * third + 64 * fourth
+}
+
+// The bytes of the picture that a memory has room for.
+fn fitting(room: usize) -> usize
+    ensures smaller { λ r. ⌜ r ≡ min room size ⌝ }
+{
+    if room < SIZE { room } else { SIZE }
+}
+
+// Draws the chart into the first bytes of a memory: a shorter one gets what it has room for, a longer one keeps the rest.
+pub fn draw(chart: Chart, memory: &mut [u8])
+    ensures bytes { λ _. ⌜ now (memory .exit) ≡ drawn (chart .right) (chart .left) (now (memory .entry)) ⌝ }
+{
+    let right = chart.right;
+    let left = chart.left;
+    let end = fitting(memory.len());
+    let mut i: usize = 0;
+    while i < end {
+        memory[i] = byte_at(&right, &left, i);
+        i += 1;
+    }
+}
