@@ -1,3 +1,4 @@
 -- Laws of the audiogram's picture.
 pub mod Cases
 pub mod Laying
+pub mod Theorems

@@ -1,0 +1,180 @@
+-- What keeps an ear from the wrong record: which entry each pixel is drawn in, and that picture memory holds it. Assumes nothing.
+use Prim.Native.Nat.{ℕ, zero, suc, _+_, _*_, _-_, _/_, _%_, _^_, _≤_, _<_, min}
+use mathlib.Core.Path.{_≡_, refl, sym, ap, _∙_}
+use mathlib.Core.Bool.{Bool, true, false, cond, _||_, true≢false}
+use mathlib.Core.List.{List, [], _∷_, _++_, map}
+use native.Mathlib.Nat.{add-zero}
+use native.Mathlib.Omega.{arith}
+use lib.Dec.{leb}
+use borrow.Author.Tests.{leb-true, leb-false}
+use lib.ListN.{length, getD, drop, length-append, length-drop, List·getD-append, List·getD-eq-default}
+use lib.Seq.{getD-append-add, getD-drop}
+use Rattle.base.specs.Count.{some, run}
+use Rattle.base.proofs.Run.{run-length, run-entry}
+use Rattle.frame.proofs.Some.{some-none, some-at}
+use Rattle.pixel.specs.Memory.{pixelAt}
+use Rattle.pixel.proofs.Bytes.{pixel-inside}
+use Rattle.audiogram.specs.Marks.{mark}
+use Rattle.audiogram.specs.Ear.{measured, columns, pointOf, keyOf, lastBefore, coveredAt, shows}
+use Rattle.audiogram.specs.Form.{form}
+use Rattle.audiogram.specs.Picture.{paperEntry, rightEntry, leftEntry, formEntry, entryAt, size, byteAt, drawn}
+use Rattle.audiogram.specs.declared.marks.Point.{Point}
+
+-- ---- entries
+
+abbrev chain : Bool → Bool → Bool → ℕ
+chain a b f = cond a rightEntry (cond b leftEntry (cond f formEntry paperEntry))
+
+chain-bound : (a b f : Bool) → chain a b f ≤ 3
+chain-bound true b f = omega arith
+chain-bound false true f = omega arith
+chain-bound false false true = omega arith
+chain-bound false false false = omega arith
+
+chain-right : (a b f : Bool) → chain a b f ≡ rightEntry → a ≡ true
+chain-right true b f e = refl
+chain-right false true f e = absurd (omega arith)
+chain-right false false true e = absurd (omega arith)
+chain-right false false false e = absurd (omega arith)
+
+chain-left : (a b f : Bool) → chain a b f ≡ leftEntry → (a ≡ false) × (b ≡ true)
+chain-left true b f e = absurd (omega arith)
+chain-left false true f e = (refl, refl)
+chain-left false false true e = absurd (omega arith)
+chain-left false false false e = absurd (omega arith)
+
+module _ (right left : List ℕ) (p : Point) where
+  pub entry-bound : entryAt right left p ≤ 3
+  unfolding entryAt
+  entry-bound = chain-bound (shows true right p) (shows false left p) (form p)
+
+  -- THE RIGHT EAR'S ENTRY stands exactly where a mark, a line or the key of the right ear covers the pixel
+  pub right-where-shown : shows true right p ≡ true → entryAt right left p ≡ rightEntry
+  unfolding entryAt
+  right-where-shown h = rw h
+
+  pub right-only-shown : entryAt right left p ≡ rightEntry → shows true right p ≡ true
+  unfolding entryAt
+  right-only-shown e = chain-right (shows true right p) (shows false left p) (form p) e
+
+  -- THE LEFT EAR'S ENTRY stands exactly where one of the left ear covers the pixel and none of the right: the right ear lies over the left
+  pub left-where-shown : shows true right p ≡ false → shows false left p ≡ true → entryAt right left p ≡ leftEntry
+  unfolding entryAt
+  left-where-shown h k = rw (h, k)
+
+  pub left-only-shown : entryAt right left p ≡ leftEntry → (shows true right p ≡ false) × (shows false left p ≡ true)
+  unfolding entryAt
+  left-only-shown e = chain-left (shows true right p) (shows false left p) (form p) e
+
+-- ---- marks
+
+module _ (side : Bool) (levels : List ℕ) (p : Point) where
+  -- an ear's mark at a level that was measured shows
+  pub mark-shows : (k : ℕ) → k < 11 → measured (getD levels k 0) ≡ true → mark side p (pointOf levels k) ≡ true → shows side levels p ≡ true
+  unfolding shows coveredAt
+  mark-shows k h m e = rw (some-at (λ j. coveredAt side levels p (lastBefore levels j) j) 11 k h (rw (m, e)))
+
+  -- an ear with no level measured shows nothing
+  module _ (none : (k : ℕ) → k < 11 → measured (getD levels k 0) ≡ false) where
+    last-none : (k : ℕ) → k ≤ 11 → lastBefore levels k ≡ 0
+    unfolding lastBefore
+    last-none zero h = refl
+    last-none (suc k) h = rw (none k (omega arith)) (last-none k (omega arith))
+
+    pub unmeasured-hidden : shows side levels p ≡ false
+    unfolding shows coveredAt
+    unmeasured-hidden =
+        rw (some-none (λ j. coveredAt side levels p (lastBefore levels j) j) 11 (λ k h. rw (none k h)), last-none 11 (omega arith))
+
+module _ (right left : List ℕ) (p : Point) where
+  -- a right-ear mark is drawn in the right ear's entry
+  pub right-mark : (k : ℕ) → k < 11 → measured (getD right k 0) ≡ true → mark true p (pointOf right k) ≡ true → entryAt right left p ≡ rightEntry
+  right-mark k h m e = right-where-shown right left p (mark-shows true right p k h m e)
+
+  -- a left-ear mark is drawn in the left ear's, but where the right ear lies over it
+  pub left-mark : (k : ℕ) → k < 11 → measured (getD left k 0) ≡ true → mark false p (pointOf left k) ≡ true → entryAt right left p ≡ cond (shows true right p) rightEntry leftEntry
+  unfolding entryAt
+  left-mark k h m e = rw (mark-shows false left p k h m e)
+
+  -- an ear with no level measured has no pixel
+  pub no-right : ((k : ℕ) → k < 11 → measured (getD right k 0) ≡ false) → entryAt right left p ≡ rightEntry → ⊥
+  no-right none e = true≢false (sym (right-only-shown right left p e) ∙ unmeasured-hidden true right p none)
+
+  pub no-left : ((k : ℕ) → k < 11 → measured (getD left k 0) ≡ false) → entryAt right left p ≡ leftEntry → ⊥
+  no-left none e = true≢false (sym (left-only-shown right left p e .1) ∙ unmeasured-hidden false left p none)
+
+-- octaves are equally far apart: the columns stand 32 pixels to a half octave, from 125 Hz on
+pub columns-octaves : columns ≡ map (λ h. 112 + 32 * h) (0 ∷ 2 ∷ 4 ∷ 5 ∷ 6 ∷ 7 ∷ 8 ∷ 9 ∷ 10 ∷ 11 ∷ 12 ∷ [])
+columns-octaves = refl
+
+-- ---- memory
+
+-- one of four pixels out of their byte
+unpack : (a b c d j : ℕ) → a ≤ 3 → b ≤ 3 → c ≤ 3 → j < 4 → (a + 4 * b + 16 * c + 64 * d) / 2 ^ (j * 2) % 4 ≡ getD (a ∷ b ∷ c ∷ d % 4 ∷ []) j 0
+unpack a b c d zero p q r h = omega arith
+unpack a b c d (suc zero) p q r h = omega arith
+unpack a b c d (suc (suc zero)) p q r h = omega arith
+unpack a b c d (suc (suc (suc zero))) p q r h = omega arith
+unpack a b c d (suc (suc (suc (suc j)))) p q r h = absurd (omega arith)
+
+same-point : (p : Point) (x y : ℕ) → x ≡ p .x → y ≡ p .y → _≡_ {A = Point} (record { x = x; y = y }) p
+same-point p x y e f = rw (e, f)
+
+module _ (right left : List ℕ) (k : ℕ) where
+  abbrev entry : ℕ → ℕ
+  entry j = entryAt right left (record { x = k % 160 * 4 + j; y = k / 160 })
+
+  abbrev first : ℕ
+  first = entryAt right left (record { x = k % 160 * 4; y = k / 160 })
+
+  picked : (j : ℕ) → j < 4 → getD (first ∷ entry 1 ∷ entry 2 ∷ entry 3 % 4 ∷ []) j 0 ≡ entry j
+  picked zero h = rw (add-zero (k % 160 * 4))
+  picked (suc zero) h = refl
+  picked (suc (suc zero)) h = refl
+  picked (suc (suc (suc zero))) h = omega (arith, entry-bound right left (record { x = k % 160 * 4 + 3; y = k / 160 }))
+  picked (suc (suc (suc (suc j)))) h = absurd (omega arith)
+
+  byte-pixel : (j : ℕ) → j < 4 → byteAt right left k / 2 ^ (j * 2) % 4 ≡ entry j
+  unfolding byteAt
+  byte-pixel j h =
+      unpack first (entry 1) (entry 2) (entry 3) j (entry-bound right left _) (entry-bound right left _) (entry-bound right left _) h ∙ picked j h
+
+module _ (right left memory : List ℕ) where
+  -- the memory keeps its length, and every byte past the picture
+  pub drawn-length : length (drawn right left memory) ≡ length memory
+  unfolding drawn
+  drawn-length = rw (length-append, run-length, length-drop) (omega arith)
+
+  pub drawn-kept : (k : ℕ) → size ≤ k → getD (drawn right left memory) k 0 ≡ getD memory k 0
+  unfolding drawn
+  drawn-kept k h = go (leb size (length memory)) refl
+    where
+      go : (b : Bool) → leb size (length memory) ≡ b → getD (drawn right left memory) k 0 ≡ getD memory k 0
+      go true t =
+          let long = leb-true size (length memory) t in
+          let whole : min (length memory) size ≡ size = omega (arith, long) in
+          let at : k ≡ length (run (byteAt right left) 0 size) + (k - size) = rw run-length (omega arith) in
+          let back : size + (k - size) ≡ k = omega arith in
+          rw whole (ap (λ (n : ℕ). getD (run (byteAt right left) 0 size ++ drop size memory) n 0) at
+          ∙ getD-append-add (run (byteAt right left) 0 size) (drop size memory) (k - size) 0
+          ∙ getD-drop size memory (k - size) 0 ∙ ap (λ (n : ℕ). getD memory n 0) back)
+      go false t =
+          let short = leb-false size (length memory) t in
+          let past : length memory ≤ k = omega (arith, short) in
+          let gone : length (drawn right left memory) ≤ k = rw (drawn-length) past in
+          List·getD-eq-default (drawn right left memory) 0 gone ∙ sym (List·getD-eq-default memory 0 past)
+
+  -- a byte of the picture
+  pub drawn-byte : (k : ℕ) → k < size → k < length memory → getD (drawn right left memory) k 0 ≡ byteAt right left k
+  unfolding drawn
+  drawn-byte k h l =
+      rw (List·getD-append (run (byteAt right left) 0 (min (length memory) size)) (drop size memory) 0 k (rw run-length (omega arith)))
+      (run-entry (byteAt right left) 0 (min (length memory) size) k 0 (omega arith) ∙ ap (byteAt right left) (omega arith))
+
+  -- THE PIXEL THAT THE MACHINE READS at 2 bits, at place y x 640 + x, has that entry
+  pub drawn-pixel : size ≤ length memory → (p : Point) → p .x < 640 → p .y < 480 → pixelAt 2 (drawn right left memory) (p .y * 640 + p .x) ≡ entryAt right left p
+  drawn-pixel room p h l =
+      let place = p .y * 640 + p .x in
+      pixel-inside 4 2 refl place (drawn right left memory)
+      ∙ rw (drawn-byte (place / 4) (omega arith) (omega arith)) (byte-pixel right left (place / 4) (place % 4) (omega arith))
+      ∙ ap (entryAt right left) (same-point p (place / 4 % 160 * 4 + place % 4) (place / 4 / 160) (omega arith) (omega arith))
