@@ -1,0 +1,2 @@
+-- Laws of a patient's sheet and of the script that draws it.
+pub mod Cases

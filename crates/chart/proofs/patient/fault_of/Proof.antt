@@ -1,0 +1,14 @@
+use borrow.Author.Needs.{needs}
+use Rattle.chart.proofs.patient.fault_of.Statement.{statement}
+use Rattle.chart.proofs.patient.fault_of.Tie as tie
+
+pub fault-of-spec : {M : Type 1} → statement M
+fault-of-spec =
+    tie.close
+    (tie.spec
+    (λ c κs. search needs)
+    (λ c κs. search needs)
+    (λ c κs. search needs)
+    (λ c κs. search needs)
+    (λ c κs. search needs)
+    (λ c. cc))

@@ -1,0 +1,13 @@
+use Rattle.chart.specs.Patient.{wrongNumber}
+use borrow.Author.Needs.{needs}
+use Rattle.chart.proofs.patient.wrong_number.Statement.{statement}
+use Rattle.chart.proofs.patient.wrong_number.Tie as tie
+
+pub wrong-number-spec : {M : Type 1} → statement M
+unfolding wrongNumber
+wrong-number-spec =
+    tie.close
+    (tie.spec
+    (λ c κs. search needs)
+    (λ c κs. search needs)
+    (λ c. cc))

@@ -1,0 +1,3 @@
+-- The rules of a patient's sheet and of the script that draws it.
+pub mod Patient
+pub mod Settings

@@ -1,0 +1,79 @@
+-- The script's text: register writes from one table, and picture memory in hexadecimal. Assumes nothing.
+use Prim.Native.Nat.{ℕ, _+_, _*_, _-_, _/_, _%_}
+use mathlib.Core.Bool.{cond}
+use mathlib.Core.List.{List, [], _∷_, _++_}
+use lib.Dec.{ltb}
+use lib.ListN.{getD}
+use Rattle.base.specs.Count.{run}
+use Rattle.text.specs.Room.{hexText, byteText}
+
+-- an address and its value, six digits
+abbrev pub at : ℕ → ℕ → ℕ
+at address value = address * 0x1000000 + value
+
+abbrev pub addressOf : ℕ → ℕ
+addressOf setting = setting / 0x1000000 % 0x1000000
+
+abbrev pub valueOf : ℕ → ℕ
+valueOf setting = setting % 0x1000000
+
+-- a monitor's 640 by 480 at 60 Hz, in screen units of four pixels and half lines; the mask, the top and the palette
+abbrev pub settings : List ℕ
+settings =
+    at 0x021 12 ∷  -- HalfSync
+    at 0x022 12 ∷  -- BackPorch
+    at 0x023 160 ∷  -- Display
+    at 0x024 60 ∷  -- ShortDisplay
+    at 0x025 88 ∷  -- BroadPulse
+    at 0x026 4 ∷  -- VSync
+    at 0x027 20 ∷  -- VPreEqualise
+    at 0x028 6 ∷  -- VPostEqualise
+    at 0x029 60 ∷  -- VBlank
+    at 0x02A 960 ∷  -- VDisplay
+    at 0x02B 200 ∷  -- LineTime
+    at 0x02C 0 ∷  -- LineStart
+    at 0x02D 1016 ∷  -- MemInit
+    at 0x02E 8 ∷  -- TransferDelay
+    at 0x040 0xFFFFFF ∷  -- mask
+    at 0x080 0 ∷  -- top of screen
+    at 0x100 0xFFFFFF ∷  -- paper
+    at 0x101 0xFF0000 ∷  -- right ear
+    at 0x102 0x0000FF ∷  -- left ear
+    at 0x103 0x606060 ∷  -- form
+    []
+
+-- control A: the generator runs at 2 bits a pixel with the cursor off
+abbrev pub start : ℕ
+start = at 0x060 0x900001
+
+-- `write ADDRESS VALUE` and the line's end
+abbrev pub rowText : ℕ → ℕ → List ℕ
+rowText address value = 119 ∷ 114 ∷ 105 ∷ 116 ∷ 101 ∷ 32 ∷ hexText address ++ (32 ∷ hexText value ++ (10 ∷ []))
+
+-- byte i of the table's text: 22 to a row
+unfoldable pub settingsByte : ℕ → ℕ
+settingsByte i = getD (rowText (addressOf (getD settings (i / 22) 0)) (valueOf (getD settings (i / 22) 0))) (i % 22) 0
+
+unfoldable pub settingsText : List ℕ
+settingsText = run settingsByte 0 440
+
+-- the write that starts the generator
+abbrev pub startText : List ℕ
+startText = rowText (addressOf start) (valueOf start)
+
+-- `poke` and a place, and a byte's word with the blank before it
+abbrev pub pokeHead : ℕ → List ℕ
+pokeHead at = 112 ∷ 111 ∷ 107 ∷ 101 ∷ 32 ∷ hexText at
+
+abbrev pub byteWord : ℕ → List ℕ
+byteWord byte = 32 ∷ 35 ∷ byteText byte
+
+-- byte i of `poke` with 64 bytes
+unfoldable pub pokeByte : ℕ → List ℕ → ℕ → ℕ
+pokeByte at part i =
+    cond (ltb i 12) (getD (pokeHead at) i 0)
+    (cond (ltb i 268) (getD (byteWord (getD part ((i - 12) / 4) 0)) ((i - 12) % 4) 0)
+    10)
+
+unfoldable pub pokeText : ℕ → List ℕ → List ℕ
+pokeText at part = run (pokeByte at part) 0 269
