@@ -1,2 +1,3 @@
 -- Laws of a patient's sheet and of the script that draws it.
 pub mod Cases
+pub mod Colours

@@ -1,3 +1,4 @@
 -- The rules of a patient's sheet and of the script that draws it.
 pub mod Patient
 pub mod Settings
+pub mod Started
