@@ -7,7 +7,7 @@ use native.Mathlib.Omega.{arith}
 use mathlib.Core.List.{List, [], _∷_, map}
 use lib.ListN.{length, getD, replicate}
 use Rattle.base.specs.Count
-use Rattle.screen.specs.Parameters
+use Rattle.units.specs.Parameters
 use Rattle.screen.specs.Limits
 use Rattle.registers.specs.Map
 use Rattle.registers.specs.File
