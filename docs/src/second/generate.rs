@@ -1,7 +1,8 @@
 // Random bench scripts for comparing the two programs.
 //
 // Build:   rustc --edition 2021 -O -o generate generate.rs
-// Use:     generate SEED > script
+// Use:     generate SEED > script            a script that asks much of the machine
+//          generate damaged SEED > script    no script at all, or a spoilt one (damaged.rs)
 //
 // SEED is a whole number; one seed gives one script, always the same. A script is
 // a few hundred lines. Most of its screens are accepted, for they are put together
@@ -11,6 +12,8 @@
 // The generator holds no second copy of the rules: it keeps the screen it wrote
 // last, the control it believes in force and, where nothing can have been refused,
 // the place in the frame. Where its belief is wrong the script is as good a script.
+
+mod damaged;
 
 use std::io::Write;
 use std::process::ExitCode;
@@ -151,26 +154,37 @@ fn all_differ(s: &Screen) -> bool {
 }
 
 /// Small screens for the most part; tall ones for a cursor's whole height, wide
-/// ones for cursor positions near 2,047.
+/// ones for cursor positions near 2,047, towers of up to 2,047 lines, and long ones
+/// for lines of up to 4,094.
 #[derive(Clone, Copy, PartialEq)]
 enum Shape {
     Small,
     Tall,
     Wide,
+    Tower,
+    Long,
 }
 
 /// One accepted screen, within the limits of refusals 10 to 17.
 fn draw_screen(c: &mut Chance, period: u32, shape: Shape) -> Screen {
     let mut s: Screen = [0; 14];
-    s[HALF_SYNC] = 1 + c.small(6);
-    s[TRANSFER_DELAY] = 1 + c.small(7);
-    s[BACK_PORCH] = s[TRANSFER_DELAY] + 2 + if c.in_a_hundred(30) { 0 } else { c.small(8) };
-    s[SHORT_DISPLAY] = s[TRANSFER_DELAY] + if c.in_a_hundred(30) { 0 } else { c.small(6) };
-    let widest = if shape == Shape::Tall { 20 } else { 44 };
+    let long = shape == Shape::Long;
+    s[HALF_SYNC] = 1 + c.small(if long { 400 } else { 6 });
+    s[TRANSFER_DELAY] = 1 + c.small(if long { 200 } else { 7 });
+    let more = if c.in_a_hundred(30) { 0 } else { c.small(if long { 300 } else { 8 }) };
+    s[BACK_PORCH] = s[TRANSFER_DELAY] + 2 + more;
+    let more = if c.in_a_hundred(30) { 0 } else { c.small(if long { 200 } else { 6 }) };
+    s[SHORT_DISPLAY] = s[TRANSFER_DELAY] + more;
+    let widest = match shape {
+        Shape::Tall => 20,
+        Shape::Tower => 2,
+        Shape::Long => 1200,
+        _ => 44,
+    };
     s[DISPLAY] = period * (1 + c.small((widest / period).max(1)));
     if shape == Shape::Wide {
         s[DISPLAY] = 16 * (31 + c.small(7));
-    } else if c.in_a_hundred(25) {
+    } else if shape != Shape::Tower && c.in_a_hundred(40) {
         // A multiple of every shift period, so that the depth may change later.
         s[DISPLAY] = 16 * (1 + c.small(3));
     }
@@ -185,6 +199,9 @@ fn draw_screen(c: &mut Chance, period: u32, shape: Shape) -> Screen {
         2 => least.max(2 * (before + s[DISPLAY])) + 2 * c.small(4),
         _ => least + 2 * c.small(20),
     };
+    if long {
+        s[LINE_TIME] = if c.in_a_hundred(20) { 4094 } else { s[LINE_TIME].clamp(least, 4094) };
+    }
     let half = s[LINE_TIME] / 2;
     s[BROAD_PULSE] = if c.in_a_hundred(20) { half - 1 } else { 1 + c.small(half - 1) };
 
@@ -200,8 +217,15 @@ fn draw_screen(c: &mut Chance, period: u32, shape: Shape) -> Screen {
     s[V_DISPLAY] = 2 * match shape {
         Shape::Small => 1 + c.small(8),
         Shape::Tall => 60 + c.small(16),
-        Shape::Wide => 1 + c.small(2),
+        Shape::Wide | Shape::Long => 1 + c.small(2),
+        Shape::Tower => 1901 + c.small(147),
     };
+    if long {
+        s[V_PRE] = 1 + c.small(3);
+        s[V_SYNC] = 1 + c.small(3);
+        s[V_POST] = 1 + c.small(3);
+        s[V_BLANK] = 2;
+    }
 
     let display = s[DISPLAY];
     let all = visible_ticks(&s) as u32;
@@ -457,7 +481,7 @@ impl Script {
             touched.push(TRANSFER_DELAY);
         }
         for _ in 0..self.c.below(3) {
-            let (place, value) = match self.c.small(14) {
+            let (place, value) = match self.c.small(15) {
                 0 => (self.c.small(14) as usize, 0),
                 1 => (self.c.small(14) as usize, 4096 + self.c.small(3)),
                 2 => (self.c.small(14) as usize, 4095),
@@ -472,6 +496,10 @@ impl Script {
                 10 => (DISPLAY, s[DISPLAY] + 1 + self.c.small(period - 1)),
                 11 => (V_BLANK, s[V_BLANK] + 1),
                 12 => (V_DISPLAY, s[V_DISPLAY] - 1),
+                13 if self.c.in_a_hundred(50) => {
+                    // BackPorch no hindrance: ShortDisplay below TransferDelay, or at it.
+                    (SHORT_DISPLAY, s[TRANSFER_DELAY] - self.c.small(2))
+                }
                 _ => {
                     let near = self.c.one_of(&[
                         s[BACK_PORCH] - 2,
@@ -492,6 +520,23 @@ impl Script {
         self.write(0x060, control & !RUN);
         for place in touched {
             self.write(0x021 + place as u32, s[place]);
+        }
+    }
+
+    /// Single parameters at the limits of refusal 10 and one past them, a start each.
+    fn limits_of_ten(&mut self, control: u32) {
+        let s = self.screen;
+        for _ in 0..8 {
+            let place = self.c.small(14);
+            let value = self.c.one_of(&[0, 4094, 4095, 4095, 4096, 4096, 4097, 0x10_0001]);
+            self.write(0x021 + place, value);
+            self.write(0x060, control);
+            if self.c.in_a_hundred(30) {
+                let ticks = self.c.below(4);
+                self.tick(ticks);
+            }
+            self.write(0x060, control & !RUN);
+            self.write(0x021 + place, s[place as usize]);
         }
     }
 
@@ -766,12 +811,12 @@ impl Script {
                 self.position = self.position.filter(|&position| position == 0);
             }
         } else {
-            let wrong = match self.c.small(6) {
-                0 => length + 1,
-                1 => length - 1,
-                2 => 0,
-                3 => length / 3,
-                4 => 3_145_728,
+            let wrong = match self.c.small(8) {
+                0 | 1 => length + 1,
+                2 | 3 => length - 1,
+                4 => 0,
+                5 => length / 3,
+                6 => 3_145_728,
                 _ => self.c.below(length * 2),
             };
             if wrong != length {
@@ -809,27 +854,32 @@ impl Script {
     /// One change of the control while running.
     fn change_control(&mut self) {
         let mut control = self.control;
-        match self.c.small(7) {
+        match self.c.small(13) {
             0 | 1 => control ^= FORCED_BLANK,
             2 | 3 => control ^= TRANSFERS_OFF,
-            4 => {
+            4 | 5 => {
                 control &= !(3 << INCREMENT_PLACE);
                 control |= self.c.small(4) << INCREMENT_PLACE;
             }
-            5 => {
+            6..=8 => {
                 let depth = self.c.small(4);
-                let period = SHIFT_PERIODS[depth as usize];
                 control &= !(3 << DEPTH_PLACE);
                 control |= depth << DEPTH_PLACE;
-                if self.screen[DISPLAY] % period != 0 {
-                    // Refused by 15.
-                    self.write(0x060, control);
-                    return;
-                }
             }
-            _ => {
-                control ^= self.c.one_of(&[PLAIN, CURSOR_OFF, 1 << 2, 1 << 9]);
+            9 => control ^= PLAIN,
+            10 => control ^= CURSOR_OFF,
+            11 => {
+                // Several at once.
+                let depth = self.c.small(4);
+                control = self.running_control(depth);
             }
+            _ => control ^= 1 << self.c.one_of(&HELD),
+        }
+        let period = SHIFT_PERIODS[((control >> DEPTH_PLACE) & 3) as usize];
+        if self.screen[DISPLAY] % period != 0 {
+            // Refused by 15.
+            self.write(0x060, control);
+            return;
         }
         self.write_control(control);
     }
@@ -940,10 +990,176 @@ impl Script {
         }
     }
 
+    /// A palette entry or a word of the cursor store, and what stands beside it.
+    fn write_and_read(&mut self) {
+        let address = 0x100 + self.c.small(0x300);
+        let value = if address < 0x200 { self.value() } else { self.cursor_word() };
+        self.write(address, value);
+        for beside in [address, address - 1, address + 1] {
+            self.read(beside);
+        }
+    }
+
+    /// Checksums about the first VDisplay tick and the frame's end: refusal 5.
+    fn sums_in_time(&mut self) {
+        let frame = frame_ticks(&self.screen);
+        let edge = if self.c.in_a_hundred(50) { flyback_ticks(&self.screen) } else { frame };
+        if self.run_to(edge - 1) {
+            for _ in 0..3 {
+                let address = 0x0C0 + self.c.small(3);
+                self.read(address);
+                self.nine();
+                self.tick(1);
+            }
+        }
+    }
+
+    /// The line before, spoilt in one place. Not one that runs or shows ticks, whose
+    /// count could become too large to wait for.
+    fn spoilt_line(&mut self) {
+        let before = &self.out[..self.out.len() - usize::from(!self.out.is_empty())];
+        let start = before.iter().rposition(|&byte| byte == b'\n').map_or(0, |at| at + 1);
+        let mut line = before[start..].to_vec();
+        if line.last() == Some(&b'\r') {
+            line.pop();
+        }
+        let slow: [&[u8]; 3] = [b"tick", b"run", b"picture"];
+        if line.is_empty() || slow.iter().any(|name| line.windows(name.len()).any(|w| w == *name)) {
+            return;
+        }
+        let at = self.c.below(line.len() as u64) as usize;
+        let byte = match self.c.small(3) {
+            0 => self.c.one_of(b" \t#/;0x\r\0"),
+            1 => self.c.one_of(b"0123456789ABCDEFabcdef"),
+            _ => self.c.below(256) as u8,
+        };
+        // A line end would make two lines of it: as good, but it is counted as one.
+        let byte = if byte == b'\n' { b'\r' } else { byte };
+        match self.c.small(7) {
+            0 => line[at] = byte,
+            1 => line.insert(at, byte),
+            2 => {
+                line.remove(at);
+            }
+            3 => line.truncate(at),
+            4 => {
+                let middle = line.len() / 2;
+                line.swap(at, middle);
+            }
+            5 => line.push(byte),
+            _ => line.extend_from_within(at..),
+        }
+        self.raw(&line);
+        self.position = None;
+    }
+
+    /// Commands in no order at all.
+    fn soup(&mut self) {
+        for _ in 0..20 + self.c.below(30) {
+            match self.c.small(16) {
+                0..=3 => {
+                    let address = self.any_address();
+                    let value = match self.c.small(5) {
+                        0 => self.c.small(16),
+                        1 => self.value(),
+                        2 => self.cursor_word(),
+                        3 => self.screen[self.c.below(14) as usize],
+                        _ => (self.c.next() & 0xFFFF_FFFF) as u32,
+                    };
+                    self.write(address, value);
+                }
+                4 | 5 => {
+                    let depth = self.c.small(4);
+                    let mut control = self.running_control(depth);
+                    if self.c.in_a_hundred(30) {
+                        control &= !RUN;
+                    }
+                    self.write(0x060, control);
+                }
+                6 | 7 => self.any_read(),
+                8 => {
+                    let ticks = self.c.below(20);
+                    self.tick(ticks);
+                }
+                9 | 10 => {
+                    let ticks = self.c.below(300);
+                    self.run(ticks);
+                }
+                11 => {
+                    let good = self.c.in_a_hundred(70);
+                    self.picture(good);
+                }
+                12 => self.nine(),
+                13 => {
+                    self.memory = self.c.small(3000);
+                    self.command("memory", &[u64::from(self.memory)]);
+                }
+                14 => {
+                    let at = self.c.below(u64::from(self.memory) + 2);
+                    let count = self.c.below(u64::from(self.memory) + 2 - at);
+                    let start = self.c.next() & 0xFFFF_FFFF;
+                    let step = self.c.next() & 0xFFFF_FFFF;
+                    self.command("fill", &[at, count, start, step]);
+                }
+                _ => self.write_parameters(),
+            }
+        }
+        self.write_control(0);
+    }
+
+    /// A frame bright and large enough for its sums to roll over past #FFFFFF.
+    fn bright_frame(&mut self) {
+        self.stop();
+        self.screen = screen(&mut self.c, 16, Shape::Small);
+        self.screen[DISPLAY] = 256;
+        self.screen[LINE_TIME] = 350;
+        self.screen[V_DISPLAY] = 132 + 2 * self.c.small(4);
+        self.write_parameters();
+        let colour = 0xFF_FFFF - self.c.one_of(&[0, 0x01_0000, 0x01_0203, 0x00_7F00, 0xFF]);
+        self.write(0x100, colour);
+        let control = self.running_control(3) & !FORCED_BLANK | TRANSFERS_OFF | CURSOR_OFF;
+        self.write_control(control);
+        self.run(frame_ticks(&self.screen));
+        self.nine();
+        let ticks = self.c.below(frame_ticks(&self.screen));
+        self.run(ticks);
+        self.stop();
+        self.nine();
+    }
+
+    /// All that can be read, while stopped.
+    fn read_all(&mut self) {
+        self.write_control(self.control & !RUN);
+        for address in 0x01F..0x030 {
+            self.read(address);
+        }
+        for address in [0x040, 0x060, 0x080, 0x0A1, 0x0A2, 0x0A3, 0x0C0, 0x0C1, 0x0C2, 0x0C7] {
+            self.read(address);
+        }
+        if self.c.in_a_hundred(15) {
+            for address in 0x100..0x400 {
+                self.read(address);
+            }
+        }
+    }
+
     /// One thing that happens while a screen runs.
     fn event(&mut self) {
         let frame = frame_ticks(&self.screen);
-        match self.c.small(48) {
+        match self.c.small(58) {
+            55 => self.covered_end(),
+            56 | 57 => self.compare_line(),
+            47 => self.write_and_read(),
+            48 | 49 => self.sums_in_time(),
+            50..=52 => self.spoilt_line(),
+            53 | 54 => {
+                self.run_to_an_event();
+                self.change_control();
+                let ticks = 1 + self.c.below(4);
+                self.tick(ticks);
+                self.change_control();
+                self.tick(ticks);
+            }
             44 | 45 => self.end_of_row(),
             46 if self.c.in_a_hundred(40) => self.far_row(),
             34 | 35 => self.switch_between_lines(),
@@ -1254,6 +1470,32 @@ impl Script {
             self.memory = needed as u32;
             self.tick(2);
         }
+        self.position = None;
+    }
+
+    /// A cursor of one colour over the whole screen, as far as it reaches, and a memory
+    /// that ends in its first line: a place under the cursor is read too.
+    fn covered_end(&mut self) {
+        let s = self.screen;
+        let (control, bits) = (self.control, self.bits());
+        self.stop();
+        self.write(0x0C7, 0);
+        for word in 0..8 {
+            self.write(0x200 + word, 0x5555);
+        }
+        self.top = 0;
+        self.write(0x080, 0);
+        let ticks = u64::from(s[DISPLAY]).min(16).min(row_length(&s));
+        let bytes = 4 * ticks * bits / 8;
+        let length = self.c.below(bytes + 1);
+        self.command("memory", &[length]);
+        self.memory = length as u32;
+        self.write_control(control & !(CURSOR_OFF | TRANSFERS_OFF | FORCED_BLANK) | RUN);
+        if self.c.in_a_hundred(50) {
+            self.picture(true);
+        }
+        self.run(tick_of(&s, ticks));
+        self.tick(1);
         self.position = None;
     }
 
@@ -1645,9 +1887,13 @@ impl Script {
         let depth = self.c.small(4);
         let shape = match self.c.small(100) {
             0..=7 => Shape::Tall,
-            8..=13 => Shape::Wide,
+            8..=14 => Shape::Wide,
+            15..=18 => Shape::Long,
+            19 | 20 => Shape::Tower,
             _ => Shape::Small,
         };
+        // A tower's lines are short: 8 bits alone allow that.
+        let depth = if shape == Shape::Tower { 3 } else { depth };
         let new_screen = if self.c.in_a_hundred(8) {
             BENCH_SCREEN
         } else {
@@ -1667,16 +1913,22 @@ impl Script {
         for _ in 0..self.c.below(3) {
             self.damaged_start(control);
         }
+        if self.c.in_a_hundred(10) {
+            self.limits_of_ten(control);
+        }
         self.colours(depth);
         if self.c.in_a_hundred(80) {
             self.cursor();
         }
 
-        // A row to which the top is near the highest address, at any increment,
-        // can be followed where nothing is read.
-        if self.c.in_a_hundred(12) {
+        // An address that rolls over, at any increment, can be followed where nothing
+        // is read.
+        if self.c.in_a_hundred(15) {
             control |= self.c.one_of(&[FORCED_BLANK, TRANSFERS_OFF]);
-            self.top = 0xFF_FFFF - self.c.small(3000);
+            let increment = INCREMENTS[((control >> INCREMENT_PLACE) & 3) as usize];
+            let rows = visible_ticks(&self.screen).div_ceil(row_length(&self.screen));
+            let back = 1 + self.c.below((rows * increment).min(0xFF_FFFF));
+            self.top = (0x100_0000 - back) as u32;
             self.lend_memory(64);
         } else {
             let (top, needed) = self.choose_top(control);
@@ -1698,10 +1950,16 @@ impl Script {
         for _ in 0..6 + self.c.below(18) {
             self.event();
         }
+        match self.c.small(20) {
+            0 | 1 => self.soup(),
+            2 => self.bright_frame(),
+            _ => {}
+        }
     }
 }
 
-fn script(seed: u64) -> Vec<u8> {
+/// A script of about so many lines, which runs about so many ticks at most.
+fn script(seed: u64, lines: usize, ticks: u64) -> Vec<u8> {
     let mut c = Chance(seed);
     let cr_lf = c.one_of(&[0, 0, 5, 50, 100]);
     let blanks = c.one_of(&[0, 3, 10, 60]);
@@ -1717,7 +1975,7 @@ fn script(seed: u64) -> Vec<u8> {
         memory: 0,
         position: None,
         tick_lines: 3_000,
-        ticks: 400_000,
+        ticks,
         picture_bytes: 60_000,
     };
 
@@ -1732,8 +1990,11 @@ fn script(seed: u64) -> Vec<u8> {
             _ => s.fault(),
         }
     }
-    while s.lines < 260 {
+    while s.lines < lines {
         s.episode();
+    }
+    if s.c.in_a_hundred(50) {
+        s.read_all();
     }
     if s.c.in_a_hundred(30) {
         s.fault();
@@ -1770,16 +2031,20 @@ fn script(seed: u64) -> Vec<u8> {
 }
 
 fn main() -> ExitCode {
-    let mut arguments = std::env::args_os().skip(1);
-    let seed = match (arguments.next(), arguments.next()) {
-        (Some(word), None) => word.to_str().and_then(|word| word.parse::<u64>().ok()),
-        _ => None,
+    let words: Vec<String> =
+        std::env::args_os().skip(1).map(|word| word.to_string_lossy().into_owned()).collect();
+    let words: Vec<&str> = words.iter().map(String::as_str).collect();
+    let (spoilt, seed) = match words[..] {
+        [seed] => (false, seed.parse().ok()),
+        ["damaged", seed] => (true, seed.parse().ok()),
+        _ => (false, None),
     };
     let Some(seed) = seed else {
-        let _ = writeln!(std::io::stderr(), "use: generate SEED, SEED a whole number below 2^64");
+        let _ = writeln!(std::io::stderr(), "use: generate [damaged] SEED, SEED below 2^64");
         return ExitCode::from(2);
     };
-    match std::io::stdout().lock().write_all(&script(seed)) {
+    let bytes = if spoilt { damaged::script(seed) } else { script(seed, 260, 400_000) };
+    match std::io::stdout().lock().write_all(&bytes) {
         Ok(()) => ExitCode::SUCCESS,
         Err(_) => ExitCode::from(1),
     }
