@@ -169,11 +169,13 @@ enum Shape {
 fn draw_screen(c: &mut Chance, period: u32, shape: Shape) -> Screen {
     let mut s: Screen = [0; 14];
     let long = shape == Shape::Long;
-    s[HALF_SYNC] = 1 + c.small(if long { 400 } else { 6 });
-    s[TRANSFER_DELAY] = 1 + c.small(if long { 200 } else { 7 });
-    let more = if c.in_a_hundred(30) { 0 } else { c.small(if long { 300 } else { 8 }) };
+    let tower = shape == Shape::Tower;
+    // A tower's lines are as short as may be, for there are many.
+    s[HALF_SYNC] = 1 + c.small(if long { 400 } else if tower { 1 } else { 6 });
+    s[TRANSFER_DELAY] = 1 + c.small(if long { 200 } else if tower { 2 } else { 7 });
+    let more = if tower || c.in_a_hundred(30) { 0 } else { c.small(if long { 300 } else { 8 }) };
     s[BACK_PORCH] = s[TRANSFER_DELAY] + 2 + more;
-    let more = if c.in_a_hundred(30) { 0 } else { c.small(if long { 200 } else { 6 }) };
+    let more = if tower || c.in_a_hundred(30) { 0 } else { c.small(if long { 200 } else { 6 }) };
     s[SHORT_DISPLAY] = s[TRANSFER_DELAY] + more;
     let widest = match shape {
         Shape::Tall => 20,
@@ -184,7 +186,7 @@ fn draw_screen(c: &mut Chance, period: u32, shape: Shape) -> Screen {
     s[DISPLAY] = period * (1 + c.small((widest / period).max(1)));
     if shape == Shape::Wide {
         s[DISPLAY] = 16 * (31 + c.small(7));
-    } else if shape != Shape::Tower && c.in_a_hundred(40) {
+    } else if !tower && c.in_a_hundred(40) {
         // A multiple of every shift period, so that the depth may change later.
         s[DISPLAY] = 16 * (1 + c.small(3));
     }
@@ -199,7 +201,9 @@ fn draw_screen(c: &mut Chance, period: u32, shape: Shape) -> Screen {
         2 => least.max(2 * (before + s[DISPLAY])) + 2 * c.small(4),
         _ => least + 2 * c.small(20),
     };
-    if long {
+    if tower {
+        s[LINE_TIME] = least;
+    } else if long {
         s[LINE_TIME] = if c.in_a_hundred(20) { 4094 } else { s[LINE_TIME].clamp(least, 4094) };
     }
     let half = s[LINE_TIME] / 2;
@@ -712,6 +716,29 @@ impl Script {
             };
             let value = self.cursor_word();
             self.write(0x200 + number, value);
+        }
+    }
+
+    /// The cursor far out on a wide screen or a tower, a frame each: the signs of its
+    /// position, and lines and columns past 1,023.
+    fn far_cursor(&mut self, tower: bool) {
+        let control = self.control & !(CURSOR_OFF | FORCED_BLANK) | TRANSFERS_OFF | RUN;
+        self.stop();
+        for number in 0..3 {
+            let colour = 1 + self.c.small(0xFF_FFFF);
+            self.write(0x0A1 + number, colour);
+        }
+        for word in [0, 1, 2, 3, 4, 5, 6, 7, 8, 16, 24] {
+            self.write(0x200 + word, 0xFFFF);
+        }
+        self.write_control(control);
+        for _ in 0..2 {
+            let far = self.c.one_of(&[2047, 2046, 2040, 1984, -2048, -2047, -2040, 1023, 1024]);
+            let near = self.c.below(6) as i32 - 3;
+            let (x, y) = if tower { (near, far) } else { (far, near) };
+            self.write(0x0C7, ((x as u32 & 0xFFF) << 12) | (y as u32 & 0xFFF));
+            self.run(frame_ticks(&self.screen));
+            self.nine();
         }
     }
 
@@ -1939,6 +1966,9 @@ impl Script {
         self.write_control(control);
 
         let frame = frame_ticks(&self.screen);
+        if shape == Shape::Tower || shape == Shape::Wide {
+            self.far_cursor(shape == Shape::Tower);
+        }
         if self.c.in_a_hundred(50) {
             self.picture(true);
             self.nine();
@@ -2043,7 +2073,7 @@ fn main() -> ExitCode {
         let _ = writeln!(std::io::stderr(), "use: generate [damaged] SEED, SEED below 2^64");
         return ExitCode::from(2);
     };
-    let bytes = if spoilt { damaged::script(seed) } else { script(seed, 260, 400_000) };
+    let bytes = if spoilt { damaged::script(seed) } else { script(seed, 240, 150_000) };
     match std::io::stdout().lock().write_all(&bytes) {
         Ok(()) => ExitCode::SUCCESS,
         Err(_) => ExitCode::from(1),
