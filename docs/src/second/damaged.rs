@@ -3,12 +3,15 @@
 
 use crate::Chance;
 
-/// Words of the language, for lines that nearly are commands. No number among them is
-/// large, so that no tick or run is too long to wait for.
-const WORDS: [&[u8]; 28] = [
+/// Words of the language, for lines that nearly are commands: names, and what may follow
+/// them. No number is large, so that no tick or run is too long to wait for.
+const NAMES: [&[u8]; 13] = [
     b"write", b"read", b"memory", b"poke", b"fill", b"tick", b"run", b"picture", b"nine", b"sheet",
-    b"field", b"store", b"compare", b"/", b"#060", b"#021", b"1", b"0", b"255", b"256", b"14",
-    b"#0C0", b"x", b";", b"#", b"48", b"3", b"70",
+    b"field", b"store", b"compare",
+];
+const OTHERS: [&[u8]; 15] = [
+    b"/", b"#060", b"#021", b"1", b"0", b"255", b"256", b"14", b"#0C0", b"x", b";", b"#", b"48", b"3",
+    b"70",
 ];
 
 pub fn script(seed: u64) -> Vec<u8> {
@@ -60,13 +63,23 @@ fn letters(c: &mut Chance) -> Vec<u8> {
     (0..c.below(60_000)).map(|_| c.one_of(characters)).collect()
 }
 
-/// Words of the language in no order.
+/// Words of the language in no order; and lines with as many words as a line can hold.
 fn words(c: &mut Chance) -> Vec<u8> {
     let mut out = Vec::new();
     for _ in 0..c.below(4_000) {
-        for _ in 0..c.below(7) {
-            out.extend_from_slice(c.one_of(&WORDS));
-            out.push(c.one_of(b"   \t"));
+        if c.in_a_hundred(5) {
+            out.extend_from_slice(c.one_of(&NAMES));
+            let slashes = c.below(3);
+            for _ in 0..c.below(520) {
+                out.push(c.one_of(b"   \t"));
+                out.push(if c.in_a_hundred(slashes) { b'/' } else { c.one_of(b"0123456789") });
+            }
+        } else {
+            for _ in 0..c.below(7) {
+                let name = c.in_a_hundred(40);
+                out.extend_from_slice(if name { c.one_of(&NAMES) } else { c.one_of(&OTHERS) });
+                out.push(c.one_of(b"   \t"));
+            }
         }
         out.extend_from_slice(c.one_of::<&[u8]>(&[b"\n", b"\n", b"\r\n", b"\n\n", b"\r"]));
     }
