@@ -1,8 +1,8 @@
 -- Bytes laid into a room, one after the other. Assumes nothing.
 use Prim.Native.Nat.{ℕ, zero, suc, _+_, _-_, _≤_, _<_}
 use mathlib.Core.Bool.{cond, _&&_}
-use mathlib.Core.List.{List, [], _∷_}
-use mathlib.Core.Path.{_≡_, refl, _∙_}
+use mathlib.Core.List.{List, [], _∷_, _++_}
+use mathlib.Core.Path.{_≡_, refl, sym, _∙_}
 use native.Mathlib.Numerals.{add-one}
 use borrow.Author.Tests.{lt-ltb, le-ltb, le-leb, lt-leb}
 use lib.ListN.{length, getD, set, drop, length-set, drop-of-length-le}
@@ -37,6 +37,33 @@ module _ (room : List ℕ) (at : ℕ) (text : List ℕ) where
   pub put-whole : at ≤ length room → length text ≤ length room - at → (now : List ℕ) → now ≡ laid (λ i. getD text i 0) room at (length text) → (at + length text ≡ putEnd room at (length text)) × (now ≡ putText room at text)
   unfolding putEnd putText
   put-whole h k now e = (simp (le-ltb (length room) at h, le-ltb (length room - at) (length text) k), e ∙ simp (le-leb at (length room) h, le-leb (length text) (length room - at) k))
+
+-- what a call has put: the place past its texts, and the room after them
+pub record Puts (room : List ℕ) (at : ℕ) (texts : List (List ℕ)) (after : List ℕ) (end : ℕ) : Type 0 where
+  pub place : end ≡ putEnds room at texts
+  pub bytes : after ≡ putTexts room at texts
+
+module _ (room : List ℕ) (at : ℕ) (after : List ℕ) (end : ℕ) where
+  pub put-one : (text : List ℕ) → end ≡ putEnd room at (length text) → after ≡ putText room at text → Puts room at (text ∷ []) after end
+  unfolding putTexts putEnds
+  put-one text e f = record { place = e; bytes = f }
+
+  pub put-some : (texts : List (List ℕ)) → end ≡ putEnds room at texts → after ≡ putTexts room at texts → Puts room at texts after end
+  put-some texts e f = record { place = e; bytes = f }
+
+-- texts put after others go on where those ended
+append : (firsts laters : List (List ℕ)) (room : List ℕ) (at : ℕ) → (putEnds room at (firsts ++ laters) ≡ putEnds (putTexts room at firsts) (putEnds room at firsts) laters) × (putTexts room at (firsts ++ laters) ≡ putTexts (putTexts room at firsts) (putEnds room at firsts) laters)
+unfolding putTexts putEnds
+append [] laters room at = (refl, refl)
+append (text ∷ rest) laters room at = append rest laters (putText room at text) (putEnd room at (length text))
+
+pub put-joined : {room between after : List ℕ} {firsts laters : List (List ℕ)} {at middle end : ℕ} → Puts room at firsts between middle → Puts between middle laters after end → Puts room at (firsts ++ laters) after end
+put-joined {room} {firsts = firsts} {laters = laters} {at = at} first later =
+    let joined = append firsts laters room at in
+    record {
+      place = rw (first .place, first .bytes) at (later .place) ∙ sym (joined .0);
+      bytes = rw (first .place, first .bytes) at (later .bytes) ∙ sym (joined .1);
+    }
 
 -- texts that are still to be put come to a room and a place
 abbrev pub Owes : List ℕ → ℕ → List (List ℕ) → List ℕ → ℕ → Type 0

@@ -1,0 +1,2 @@
+-- Laws of a waveform's text.
+mod Cases

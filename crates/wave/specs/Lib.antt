@@ -1,0 +1,2 @@
+-- The text of a waveform.
+pub mod Changes
