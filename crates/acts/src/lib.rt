@@ -7,7 +7,6 @@ ghost use Rattle.acts.specs.Machines.{nineOf, ranOf, picturedOf};
 ghost use Rattle.picture.specs.Picture.{bufferOf};
 ghost use lib.ListN.{length};
 
-pub mod says;
 
 use machine::Advanced;
 use machine::Machine;

@@ -1,6 +1,6 @@
 -- Bytes laid into a room, one after the other. Assumes nothing.
 use Prim.Native.Nat.{ℕ, zero, suc, _+_, _-_, _≤_, _<_}
-use mathlib.Core.Bool.{cond, _&&_}
+use mathlib.Core.Bool.{Bool, true, false, cond, _&&_}
 use mathlib.Core.List.{List, [], _∷_, _++_}
 use mathlib.Core.Path.{_≡_, refl, sym, _∙_}
 use native.Mathlib.Numerals.{add-one}
@@ -37,6 +37,14 @@ module _ (room : List ℕ) (at : ℕ) (text : List ℕ) where
   pub put-whole : at ≤ length room → length text ≤ length room - at → (now : List ℕ) → now ≡ laid (λ i. getD text i 0) room at (length text) → (at + length text ≡ putEnd room at (length text)) × (now ≡ putText room at text)
   unfolding putEnd putText
   put-whole h k now e = (simp (le-ltb (length room) at h, le-ltb (length room - at) (length text) k), e ∙ simp (le-leb at (length room) h, le-leb (length text) (length room - at) k))
+
+-- one of two texts
+module _ (room : List ℕ) (at : ℕ) (test : Bool) (one other after : List ℕ) (end : ℕ) where
+  pub put-first : test ≡ true → end ≡ putEnd room at (length one) → after ≡ putText room at one → (end ≡ putEnd room at (length (cond test one other))) × (after ≡ putText room at (cond test one other))
+  put-first h e f = (rw h e, rw h f)
+
+  pub put-second : test ≡ false → end ≡ putEnd room at (length other) → after ≡ putText room at other → (end ≡ putEnd room at (length (cond test one other))) × (after ≡ putText room at (cond test one other))
+  put-second h e f = (rw h e, rw h f)
 
 -- what a call has put: the place past its texts, and the room after them
 pub record Puts (room : List ℕ) (at : ℕ) (texts : List (List ℕ)) (after : List ℕ) (end : ℕ) : Type 0 where

@@ -1,5 +1,6 @@
 // Bytes put into a lent room, and numbers as text.
 ghost use mathlib.Core.Path.{_≡_};
+ghost use mathlib.Core.Bool.{cond};
 ghost use lib.ListN.{length};
 ghost use Rattle.text.specs.Room.{hexText, byteText, decimalText, putText, putEnd, putTexts, putEnds, Inside};
 ghost use Rattle.text.specs.Lines.{countTexts, rowTexts, valuesTexts};
@@ -27,6 +28,17 @@ pub fn put(room: &mut [u8], at: usize, text: &[u8]) -> usize
         i += 1;
     }
     at + count
+}
+
+// One text where a test holds, and the other where not.
+pub fn put_either(room: &mut [u8], at: usize, test: bool, one: &[u8], other: &[u8]) -> usize
+    ensures place { λ r. ⌜ r ≡ putEnd (now (room .entry)) at (length (cond test (now (one .entry)) (now (other .entry)))) ⌝ }
+    ensures bytes { λ _. ⌜ now (room .exit) ≡ putText (now (room .entry)) at (cond test (now (one .entry)) (now (other .entry))) ⌝ }
+{
+    if test {
+        return put(room, at, one);
+    }
+    put(room, at, other)
 }
 
 // A hexadecimal digit, in capitals.

@@ -1,10 +1,10 @@
--- Texts written or not, and a number's bits in their places. Assumes nothing.
+-- A number's bits in their places, and the cases of a tick. Assumes nothing.
 use Prim.Native.Nat.{ℕ, _+_, _-_, _/_, _%_, _^_}
-use mathlib.Core.Bool.{Bool, true, false, cond, _||_}
+use mathlib.Core.Bool.{Bool, true, false, _||_}
 use mathlib.Core.List.{List, []}
 use mathlib.Core.Path.{_≡_, refl}
-use lib.ListN.{length, set, replicate}
-use Rattle.text.specs.Room.{laid, putText, putEnd, putTexts, putEnds}
+use lib.ListN.{set, replicate}
+use Rattle.text.specs.Room.{laid, putTexts, putEnds}
 use Rattle.wave.specs.Changes.{busText, levelsDiffer, busesDiffer, firstTexts, laterTexts, tickTexts}
 use Rattle.generator.specs.declared.Signals.{Signals}
 
@@ -15,13 +15,6 @@ bare mark = set (set (set (replicate 28 98) 25 32) 26 mark) 27 10
 pub bus-laid : (mark value : ℕ) → laid (λ k. 48 + value / 2 ^ (23 - k) % 2) (bare mark) 1 24 ≡ busText mark value
 unfolding laid
 bus-laid mark value = refl
-
-module _ (room : List ℕ) (at : ℕ) (written : Bool) (text room' : List ℕ) (at' : ℕ) where
-  pub put-written : written ≡ true → at' ≡ putEnd room at (length text) → room' ≡ putText room at text → (at' ≡ putEnd room at (length (cond written text []))) × (room' ≡ putText room at (cond written text []))
-  put-written h e f = (rw h e, rw h f)
-
-  pub put-unwritten : written ≡ false → at' ≡ putEnd room at 0 → room' ≡ putText room at [] → (at' ≡ putEnd room at (length (cond written text []))) × (room' ≡ putText room at (cond written text []))
-  put-unwritten h e f = (rw h e, rw h f)
 
 -- the three cases of a tick
 module _ (first : Bool) (k : ℕ) (before s : Signals) where

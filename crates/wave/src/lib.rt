@@ -1,7 +1,6 @@
 // A waveform as text (a VCD file): its head, the wires that a tick changes, and times.
 ghost use mathlib.Core.Path.{_≡_};
 ghost use mathlib.Core.Bool.{cond};
-ghost use mathlib.Core.List.{[]};
 ghost use Prim.Native.Nat.{_+_, _/_, _%_, _^_, _≤_, _<_};
 ghost use lib.ListN.{length};
 ghost use Rattle.text.specs.Room.{putText, putEnd, putTexts, putEnds};
@@ -54,17 +53,6 @@ fn is_changed(before: bool, level: bool) -> bool
     base::level(before, !level, level)
 }
 
-// A text, where it is to be written.
-fn put_where(room: &mut [u8], at: usize, written: bool, text: &[u8]) -> usize
-    ensures place { λ r. ⌜ r ≡ putEnd (now (room .entry)) at (length (cond written (now (text .entry)) [])) ⌝ }
-    ensures bytes { λ _. ⌜ now (room .exit) ≡ putText (now (room .entry)) at (cond written (now (text .entry)) []) ⌝ }
-{
-    if written {
-        return text::put(room, at, text);
-    }
-    text::put(room, at, b"")
-}
-
 // A one-bit wire, where it is written.
 fn put_level(room: &mut [u8], at: usize, all: bool, mark: u8, before: bool, level: bool) -> usize
     ensures place { λ r. ⌜ r ≡ putEnd (now (room .entry)) at (length (levelChange all mark before level)) ⌝ }
@@ -72,7 +60,7 @@ fn put_level(room: &mut [u8], at: usize, all: bool, mark: u8, before: bool, leve
 {
     let changed = is_changed(before, level);
     let text = level_text(mark, level);
-    put_where(room, at, all | changed, &text)
+    text::put_either(room, at, all | changed, &text, b"")
 }
 
 // A wire of 24 bits, where it is written.
@@ -81,7 +69,7 @@ fn put_bus(room: &mut [u8], at: usize, all: bool, mark: u8, before: u32, value: 
     ensures bytes { λ _. ⌜ now (room .exit) ≡ putText (now (room .entry)) at (busChange all mark before value) ⌝ }
 {
     let text = bus_text(mark, value);
-    put_where(room, at, all | (before != value), &text)
+    text::put_either(room, at, all | (before != value), &text, b"")
 }
 
 // The one-bit wires.

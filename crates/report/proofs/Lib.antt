@@ -1,0 +1,2 @@
+-- Laws of a page.
+mod Cases

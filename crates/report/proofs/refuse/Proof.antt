@@ -1,0 +1,16 @@
+-- `report::refuse` meets its contract.
+use borrow.Author.Needs.{needs}
+use Rattle.report.proofs.refuse.Statement.{statement}
+use Rattle.report.proofs.refuse.Tie as tie
+
+returns : tie.Need-returns
+returns c = (cc, cc)
+
+pub refuse-spec : {M : Type 1} → statement M
+refuse-spec =
+    tie.close
+    (tie.spec
+    (λ c κs. search needs)
+    (λ c κs. search needs)
+    (λ c. search needs)
+    returns)

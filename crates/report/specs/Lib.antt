@@ -1,0 +1,2 @@
+-- What a session has said so far.
+pub mod Pages

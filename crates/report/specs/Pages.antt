@@ -1,0 +1,43 @@
+-- A page: what a session has said so far, and what it says next, by its form. Assumes nothing.
+use Prim.Native.Nat.{ℕ, _+_}
+use mathlib.Core.Bool.{Bool, cond}
+use mathlib.Core.List.{List, [], _∷_, _++_}
+use lib.Dec.{ltb, eqb}
+use Rattle.generator.specs.Tick.{silent}
+use Rattle.generator.specs.declared.Signals.{Signals}
+use Rattle.text.specs.Ascii.{ascii}
+use Rattle.text.specs.Room.{decimalText}
+use Rattle.text.specs.Lines.{lineEnd, countTexts}
+use Rattle.says.specs.Notes.{refusedTexts}
+use Rattle.says.specs.Answers.{lineTexts}
+use Rattle.wave.specs.Changes.{tickTexts}
+use Rattle.report.specs.declared.Page.{Page}
+
+-- before a script's first line
+abbrev pub blankPage : ℕ → Page
+blankPage form = record { form = form; waiting = 0; ticks = 0; last = silent; width = 0; height = 0 }
+
+-- a page on which other bytes wait
+abbrev pub turned : Page → ℕ → Page
+turned p waiting = record { form = p .form; waiting = waiting; ticks = p .ticks; last = p .last; width = p .width; height = p .height }
+
+-- and after one tick more
+abbrev pub counted : Page → ℕ → Signals → Page
+counted p waiting s =
+    record { form = p .form; waiting = waiting; ticks = cond (ltb (p .ticks) 0xFFFFFFFFFFFFFFFF) (p .ticks + 1) (p .ticks); last = s; width = p .width; height = p .height }
+
+-- what a command that may be refused says: in answers `ok`, elsewhere nothing unless it is refused
+unfoldable pub verdictTexts : ℕ → ℕ → ℕ → List (List ℕ)
+verdictTexts form line refusal =
+    cond (eqb refusal 0) (cond (eqb form 0) (ascii "ok\n" ∷ []) []) (refusedTexts form line refusal)
+
+-- a tick: its line in answers, its changes in a waveform, and nothing for a picture
+unfoldable pub stepTexts : Page → Signals → List (List ℕ)
+stepTexts p s =
+    cond (eqb (p .form) 0) (lineTexts s)
+    (cond (eqb (p .form) 1) (tickTexts (eqb (p .ticks) 0) (p .ticks) (p .last) s)
+    [])
+
+-- the head of a PPM: its kind, width and height, and the largest value of a colour
+abbrev pub ppmTexts : ℕ → ℕ → List (List ℕ)
+ppmTexts width height = ascii "P6\n" ∷ decimalText width ∷ ascii " " ∷ decimalText height ∷ ascii "\n255\n" ∷ []

@@ -1,0 +1,163 @@
+// A page: what a session has said so far, and what it says next, by its form.
+ghost use mathlib.Core.Path.{_≡_};
+ghost use mathlib.Core.Bool.{cond};
+ghost use lib.Dec.{ltb};
+ghost use Rattle.text.specs.Room.{putTexts, putEnds};
+ghost use Rattle.generator.specs.Tick.{silent};
+ghost use Rattle.says.specs.Notes.{refusedTexts, faultTexts};
+ghost use Rattle.report.specs.Pages.{blankPage, turned, counted, verdictTexts, stepTexts, ppmTexts};
+use generator::Signals;
+use says::ANSWERS;
+use says::PICTURE;
+use says::WAVE;
+
+// The form; the bytes that wait to be written; the ticks so far and what the last one put out; the last picture's size, 0 before one.
+pub struct Page {
+    pub form: u32,
+    pub waiting: usize,
+    pub ticks: u64,
+    pub last: Signals,
+    pub width: u64,
+    pub height: u64,
+}
+
+// What no tick has put out.
+fn nothing() -> Signals
+    ensures signals { λ s. ⌜ s ≡ silent ⌝ }
+{
+    let black = pixel::Dot { colour: 0 };
+    Signals {
+        sync: false,
+        vsync: false,
+        inactive: false,
+        blank: false,
+        request: false,
+        transfer: false,
+        address: 0,
+        dots: [black; 4],
+    }
+}
+
+// Before a script's first line.
+pub fn blank_page(form: u32) -> Page
+    ensures page { λ r. ⌜ r ≡ blankPage form ⌝ }
+{
+    let last = nothing();
+    Page {
+        form,
+        waiting: 0,
+        ticks: 0,
+        last,
+        width: 0,
+        height: 0,
+    }
+}
+
+// The page with other bytes waiting.
+pub fn turn(p: Page, waiting: usize) -> Page
+    ensures page { λ r. ⌜ r ≡ turned p waiting ⌝ }
+{
+    let mut next = p;
+    next.waiting = waiting;
+    next
+}
+
+// The page after one tick more.
+fn count(p: Page, waiting: usize, s: Signals) -> Page
+    ensures page { λ r. ⌜ r ≡ counted p waiting s ⌝ }
+{
+    let ticks = script::lines::one_more(p.ticks);
+    Page {
+        form: p.form,
+        waiting,
+        ticks,
+        last: s,
+        width: p.width,
+        height: p.height,
+    }
+}
+
+// Writes what waits: a picture has standard output for itself.
+pub fn write(p: Page, out: &[u8]) -> Page
+    ensures page { λ r. ⌜ r ≡ turned p 0 ⌝ }
+{
+    let waiting = text::bytes::lent(out, p.waiting);
+    if p.form == PICTURE {
+        io::write_all(2, waiting);
+    } else {
+        io::write_all(1, waiting);
+    }
+    turn(p, 0)
+}
+
+// Writes what waits where the room for more is short.
+pub fn space(p: Page, out: &[u8]) -> Page
+    ensures page { λ r. ⌜ r ≡ turned p (cond (ltb (p .waiting) 32768) (p .waiting) 0) ⌝ }
+{
+    if p.waiting < 32768 {
+        return turn(p, p.waiting);
+    }
+    write(p, out)
+}
+
+// A refusal.
+pub fn refuse(p: Page, out: &mut [u8], line: u64, refusal: u32) -> Page
+    ensures page { λ r. ⌜ r ≡ turned p (putEnds (now (out .entry)) (p .waiting) (refusedTexts (p .form) line refusal)) ⌝ }
+    ensures bytes { λ _. ⌜ now (out .exit) ≡ putTexts (now (out .entry)) (p .waiting) (refusedTexts (p .form) line refusal) ⌝ }
+{
+    let end = says::notes::put_refused(out, p.waiting, p.form, line, refusal);
+    turn(p, end)
+}
+
+// A fault of a line.
+pub fn fault(p: Page, out: &mut [u8], line: u64, fault: u32) -> Page
+    ensures page { λ r. ⌜ r ≡ turned p (putEnds (now (out .entry)) (p .waiting) (faultTexts (p .form) line fault)) ⌝ }
+    ensures bytes { λ _. ⌜ now (out .exit) ≡ putTexts (now (out .entry)) (p .waiting) (faultTexts (p .form) line fault) ⌝ }
+{
+    let end = says::notes::put_fault(out, p.waiting, p.form, line, fault);
+    turn(p, end)
+}
+
+// A command that answers nothing but `ok`, or a refusal.
+pub fn verdict(p: Page, out: &mut [u8], line: u64, refusal: u32) -> Page
+    ensures page { λ r. ⌜ r ≡ turned p (putEnds (now (out .entry)) (p .waiting) (verdictTexts (p .form) line refusal)) ⌝ }
+    ensures bytes { λ _. ⌜ now (out .exit) ≡ putTexts (now (out .entry)) (p .waiting) (verdictTexts (p .form) line refusal) ⌝ }
+{
+    if refusal != 0 {
+        return refuse(p, out, line, refusal);
+    }
+    if p.form == ANSWERS {
+        let end = text::put(out, p.waiting, b"ok\n");
+        return turn(p, end);
+    }
+    turn(p, p.waiting)
+}
+
+// A tick.
+pub fn tick(p: Page, out: &mut [u8], s: Signals) -> Page
+    ensures page { λ r. ⌜ r ≡ counted p (putEnds (now (out .entry)) (p .waiting) (stepTexts p s)) s ⌝ }
+    ensures bytes { λ _. ⌜ now (out .exit) ≡ putTexts (now (out .entry)) (p .waiting) (stepTexts p s) ⌝ }
+{
+    let last = p.last;
+    if p.form == ANSWERS {
+        let end = says::ticks::put_tick(out, p.waiting, s);
+        return count(p, end, s);
+    }
+    if p.form == WAVE {
+        let end = wave::put_tick(out, p.waiting, p.ticks == 0, p.ticks, last, s);
+        return count(p, end, s);
+    }
+    count(p, p.waiting, s)
+}
+
+// The head of a PPM.
+pub fn put_ppm(room: &mut [u8], at: usize, width: u64, height: u64) -> usize
+    ensures place { λ r. ⌜ r ≡ putEnds (now (room .entry)) at (ppmTexts width height) ⌝ }
+    ensures bytes { λ _. ⌜ now (room .exit) ≡ putTexts (now (room .entry)) at (ppmTexts width height) ⌝ }
+{
+    let kind = text::put(room, at, b"P6\n");
+    let wide = text::put_decimal(room, kind, width);
+    let parted = text::put(room, wide, b" ");
+    let high = text::put_decimal(room, parted, height);
+    text::put(room, high, b"\n255\n")
+}

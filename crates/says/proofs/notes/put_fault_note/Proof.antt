@@ -1,0 +1,28 @@
+-- `says::notes::put_fault_note` meets its contract.
+use Rattle.text.proofs.Laying.{put-joined, put-one}
+use borrow.Author.Needs.{needs}
+use Rattle.says.proofs.notes.put_fault_note.Statement.{statement}
+use Rattle.says.proofs.notes.put_fault_note.Tie as tie
+
+returns : tie.Need-returns
+returns c =
+    let p = c .before .before .before .before .before .before .before .before .before .before .before .before .before .before .before .before .before .before .before .put-open .ensures in
+    let q = c .before .before .before .before .before .before .before .before .before .before .before .before .before .before .before .put-decimal .ensures in
+    let r = c .before .before .before .before .before .before .before .before .before .before .put .ensures in
+    let s = c .before .before .before .before .before .before .put-reason .ensures in
+    let t = c .before .before .put-close .ensures in
+    let puts = put-joined (put-one _ _ _ _ _ (p .0) (p .1)) (put-joined (put-one _ _ _ _ _ (q .0) (q .1 .0)) (put-joined (put-one _ _ _ _ _ (r .0) (r .1 .0)) (put-joined (put-one _ _ _ _ _ (s .0) (s .1)) (put-one _ _ _ _ _ (t .0) (t .1))))) in
+    (puts .place, puts .bytes)
+
+pub put-fault-note-spec : {M : Type 1} → statement M
+put-fault-note-spec =
+    tie.close
+    (tie.spec
+    (λ c κs. search needs)
+    (λ c κs. search needs)
+    (λ c. search needs)
+    (λ c κs. search needs)
+    (λ c κs. search needs)
+    (λ c κs. search needs)
+    (λ c. search needs)
+    returns)
