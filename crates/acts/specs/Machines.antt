@@ -1,5 +1,5 @@
 -- What commands do to a machine (console.md): many ticks, and the checksums. Assumes nothing.
-use Prim.Native.Nat.{ℕ, zero, suc, _+_}
+use Prim.Native.Nat.{ℕ, zero, suc, _+_, _*_, _/_}
 use mathlib.Core.Bool.{cond}
 use mathlib.Core.List.{List, [], _∷_}
 use lib.Dec.{eqb}
@@ -7,10 +7,13 @@ use lib.ListN.{replicate}
 use Rattle.machine.specs.Rules.{answered, advanced}
 use Rattle.machine.specs.declared.Machine.{Machine}
 use Rattle.machine.specs.declared.Answered.{Answered}
+use Rattle.base.specs.Sum.{capped}
+use Rattle.generator.specs.Rows.{screen}
 use Rattle.picture.specs.Picture.{drawnOf}
 use Rattle.acts.specs.declared.Ran.{Ran}
 use Rattle.acts.specs.declared.Pictured.{Pictured}
 use Rattle.acts.specs.declared.Checksums.{Checksums}
+use Rattle.acts.specs.declared.Size.{Size}
 
 -- one tick more of a run, unless one was refused; a refused tick is not done
 unfoldable pub ranOn : List ℕ → Ran → Ran
@@ -46,3 +49,7 @@ picturedOf m memory size =
       refusal = drawnOf (m .regs) memory (m .generator) size .refusal;
       machine = record { regs = m .regs; generator = drawnOf (m .regs) memory (m .generator) size .next };
     }
+
+-- a picture's width and height: 4 x Display, VDisplay / 2
+abbrev pub sizeOf : Machine → Size
+sizeOf m = record { width = capped (4 * screen (m .regs) .display .0); height = screen (m .regs) .vdisplay .0 / 2 }

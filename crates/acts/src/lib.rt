@@ -3,11 +3,9 @@ ghost use mathlib.Core.Path.{_≡_};
 ghost use Prim.Native.Nat.{_≤_};
 ghost use Rattle.generator.specs.Sound.{Sound};
 ghost use Rattle.machine.specs.Rules.{beginning, written, advanced};
-ghost use Rattle.acts.specs.Machines.{nineOf, ranOf, picturedOf};
+ghost use Rattle.acts.specs.Machines.{nineOf, ranOf, picturedOf, sizeOf};
 ghost use Rattle.picture.specs.Picture.{bufferOf};
 ghost use lib.ListN.{length};
-
-
 use machine::Advanced;
 use machine::Machine;
 use machine::Written;
@@ -23,6 +21,12 @@ pub struct Ran {
 pub struct Pictured {
     pub refusal: u32,
     pub machine: Machine,
+}
+
+// The width and height of a picture.
+pub struct Size {
+    pub width: u64,
+    pub height: u64,
 }
 
 // The refusal of the checksums' reads or 0, and the three words; 0 where refused.
@@ -115,5 +119,18 @@ pub fn draw(m: Machine, memory: &[u8], buffer: &mut [u8]) -> Pictured
     Pictured {
         refusal: drawn.refusal,
         machine: Machine { regs, generator },
+    }
+}
+
+// The width and height of a machine's picture: four pixels to a unit of Display, and a line for two half lines of VDisplay.
+pub fn size_of(m: Machine) -> Size
+    ensures size { λ r. ⌜ r ≡ sizeOf m ⌝ }
+{
+    let regs = m.regs;
+    let params = regs.params;
+    let s = screen::screen_of(params);
+    Size {
+        width: base::product(4, s.display.0),
+        height: s.vdisplay.0 / 2,
     }
 }

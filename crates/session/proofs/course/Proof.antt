@@ -1,4 +1,4 @@
--- `bench::session` is safe and ends: each turn brings the count of turns down.
+-- `session::course` is safe and ends: each turn brings the count of turns down.
 use Prim.Native.Nat.{ℕ, _-_, _<_}
 use mathlib.Core.Bool.{Bool, true, false, cond}
 use mathlib.Core.Path.{_≡_, refl, sym, ap, _∙_}
@@ -6,8 +6,8 @@ use lib.ListN.{length}
 use Rattle.generator.specs.Sound.{Sound}
 use native.Mathlib.Omega.{arith}
 use borrow.Author.Needs.{needs}
-use Rattle.bench.proofs.session.Statement.{statement}
-use Rattle.bench.proofs.session.Tie as tie
+use Rattle.session.proofs.course.Statement.{statement}
+use Rattle.session.proofs.course.Tie as tie
 
 -- a turn leaves fewer turns, whether the script goes on or not
 fewer : (more : Bool) (turns next : ℕ) → 0 < turns → next ≡ cond more (turns - 1) 0 → next < turns
@@ -62,8 +62,8 @@ same-length-3 c = search needs
 returns : tie.Need-returns Inv-loop μ-loop
 returns c = search needs
 
-pub session-spec : {M : Type 1} → statement M
-session-spec =
+pub course-spec : {M : Type 1} → statement M
+course-spec =
     tie.close
     (tie.spec
     Inv-loop

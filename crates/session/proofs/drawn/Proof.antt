@@ -1,10 +1,10 @@
--- `bench::drawn` is safe and keeps the one condition: a part as long as asked.
+-- `session::drawn` is safe and keeps the one condition: a part as long as asked.
 use mathlib.Core.Path.{sym}
 use lib.Seq.{length-take-le}
 use native.Mathlib.Omega.{arith}
 use borrow.Author.Needs.{needs}
-use Rattle.bench.proofs.drawn.Statement.{statement}
-use Rattle.bench.proofs.drawn.Tie as tie
+use Rattle.session.proofs.drawn.Statement.{statement}
+use Rattle.session.proofs.drawn.Tie as tie
 
 cast-lent : tie.Need-cast-lent
 cast-lent c = search needs

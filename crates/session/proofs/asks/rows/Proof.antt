@@ -1,20 +1,23 @@
--- `bench::rows` is safe and ends: each turn leaves fewer bytes.
+-- `session::asks::rows` is safe and ends: each turn leaves fewer bytes.
 use Prim.Native.Nat.{_≤_, _-_}
-use mathlib.Core.Path.{_≡_, refl, sym, ap, _∙_}
+use mathlib.Core.Path.{_≡_, refl}
 use lib.ListN.{length}
 use native.Mathlib.Omega.{arith}
 use borrow.Author.Needs.{needs}
-use Rattle.bench.proofs.rows.Statement.{statement}
-use Rattle.bench.proofs.rows.Tie as tie
+use Rattle.session.proofs.asks.rows.Statement.{statement}
+use Rattle.session.proofs.asks.rows.Tie as tie
 
 abbrev Inv-loop : tie.InvT-loop
-Inv-loop out₀ at bytes waiting₀ from₀ out waiting from = (from ≤ length bytes) × (length out ≡ length out₀)
+Inv-loop out₀ bytes page₀ from₀ out page from = (from ≤ length bytes) × (length out ≡ length out₀)
 
 abbrev μ-loop : tie.MeasureT-loop
-μ-loop out₀ at bytes waiting₀ from₀ out waiting from = length bytes - from
+μ-loop out₀ bytes page₀ from₀ out page from = length bytes - from
 
 loop-holds : tie.Need-loop-holds Inv-loop μ-loop
 loop-holds c = (omega arith, refl)
+
+space-requires : tie.Need-space-requires Inv-loop μ-loop
+space-requires c κs = search needs
 
 sub-left : tie.Need-sub-left Inv-loop μ-loop
 sub-left c = search needs
@@ -25,14 +28,14 @@ part-left-start c = search needs
 part-left-end : tie.Need-part-left-end Inv-loop μ-loop
 part-left-end c = search needs
 
-spaced-requires : tie.Need-spaced-requires Inv-loop μ-loop
-spaced-requires c κs = search needs
-
 lent-requires : tie.Need-lent-requires Inv-loop μ-loop
 lent-requires c κs = search needs
 
 put-row-requires : tie.Need-put-row-requires Inv-loop μ-loop
 put-row-requires c κs = search needs
+
+turn-requires : tie.Need-turn-requires Inv-loop μ-loop
+turn-requires c κs = search needs
 
 later-requires : tie.Need-later-requires Inv-loop μ-loop
 later-requires c κs = search needs
@@ -56,12 +59,13 @@ rows-spec =
     Inv-loop
     μ-loop
     loop-holds
+    space-requires
     sub-left
     part-left-start
     part-left-end
-    spaced-requires
     lent-requires
     put-row-requires
+    turn-requires
     later-requires
     loop-less
     loop-again

@@ -1,12 +1,12 @@
--- `bench::pieced` is safe, ends and keeps the one condition: each turn takes a byte.
+-- `session::pieced` is safe, ends and keeps the one condition: each turn takes a byte.
 use Prim.Native.Nat.{_-_}
 use mathlib.Core.Path.{_≡_, refl, sym, ap, _∙_}
 use lib.ListN.{length}
 use Rattle.generator.specs.Sound.{Sound}
 use native.Mathlib.Omega.{arith}
 use borrow.Author.Needs.{needs}
-use Rattle.bench.proofs.pieced.Statement.{statement}
-use Rattle.bench.proofs.pieced.Tie as tie
+use Rattle.session.proofs.pieced.Statement.{statement}
+use Rattle.session.proofs.pieced.Tie as tie
 
 abbrev Inv-loop : tie.InvT-loop
 Inv-loop piece held line₀ memory₀ picture₀ out₀ desk₀ count₀ at₀ line memory picture out desk count at = (Sound (desk .machine .regs) (desk .machine .generator)) × (((length line ≡ length line₀) × (length memory ≡ length memory₀)) × ((length picture ≡ length picture₀) × (length out ≡ length out₀)))

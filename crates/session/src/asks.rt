@@ -1,0 +1,138 @@
+// What commands that only ask say: in answers what they found, elsewhere nothing unless they are refused.
+ghost use Rattle.generator.specs.Sound.{Sound};
+use machine::Machine;
+use report::Page;
+use says::ANSWERS;
+use script::command::Command;
+
+// There is nothing to say but a verdict.
+fn is_brief(p: Page, refusal: u32) -> bool {
+    (refusal != 0) | (p.form != ANSWERS)
+}
+
+// Bytes in hexadecimal, 32 a line.
+fn rows(p: Page, out: &mut [u8], bytes: &[u8]) -> Page {
+    let mut page = p;
+    let mut from: usize = 0;
+    while from < bytes.len() {
+        page = report::space(page, out);
+        let left = &bytes[from..];
+        let end = text::put_row(out, page.waiting, text::bytes::lent(left, 32));
+        page = report::turn(page, end);
+        from = text::bytes::later(from, 32, bytes.len());
+    }
+    page
+}
+
+// Bytes that were asked for, or a refusal.
+pub fn shown(p: Page, out: &mut [u8], line: u64, refusal: u32, bytes: &[u8]) -> Page {
+    let told = report::verdict(p, out, line, refusal);
+    if is_brief(p, refusal) {
+        return told;
+    }
+    rows(told, out, bytes)
+}
+
+// `read ADDRESS`.
+fn read(p: Page, m: Machine, out: &mut [u8], line: u64, address: u32) -> Page
+    requires { ⌜ Sound (m .regs) (m .generator) ⌝ }
+{
+    let answer = m.read(address);
+    if is_brief(p, answer.refusal) {
+        return report::verdict(p, out, line, answer.refusal);
+    }
+    let value = text::put_hex(out, p.waiting, answer.value);
+    let end = text::put(out, value, b"\n");
+    report::turn(p, end)
+}
+
+// `nine`.
+fn nine(p: Page, m: Machine, out: &mut [u8], line: u64) -> Page
+    requires { ⌜ Sound (m .regs) (m .generator) ⌝ }
+{
+    let sums = acts::nine(m);
+    let words = sums.words;
+    if is_brief(p, sums.refusal) {
+        return report::verdict(p, out, line, sums.refusal);
+    }
+    let low = text::put_hex(out, p.waiting, words[0]);
+    let middle = says::ticks::put_colour(out, low, words[1]);
+    let high = says::ticks::put_colour(out, middle, words[2]);
+    let end = text::put(out, high, b"\n");
+    report::turn(p, end)
+}
+
+// `sheet BYTE...`.
+fn sheet(p: Page, c: Command, out: &mut [u8], line: u64) -> Page {
+    let sheet = answers::sheet_of(c);
+    let values = sheet.values;
+    if is_brief(p, sheet.refusal) {
+        return report::verdict(p, out, line, sheet.refusal);
+    }
+    let ok = text::put(out, p.waiting, b"ok");
+    let end = text::put_values(out, ok, &values);
+    report::turn(p, end)
+}
+
+// `field TAG BYTE...`.
+fn field(p: Page, c: Command, out: &mut [u8], line: u64) -> Page {
+    let answer = answers::field_of(c);
+    if is_brief(p, answer.refusal) {
+        return report::verdict(p, out, line, answer.refusal);
+    }
+    let end = text::put_count(out, p.waiting, b"", answer.value as u64);
+    report::turn(p, end)
+}
+
+// `store ROOM VALUE x14`.
+fn store(p: Page, c: Command, out: &mut [u8], line: u64) -> Page {
+    let stored = answers::stored_of(c);
+    let bytes = stored.bytes;
+    let room = stored.room;
+    shown(
+        p,
+        out,
+        line,
+        stored.refusal,
+        text::bytes::lent(&bytes, room),
+    )
+}
+
+// `compare BYTE... / BYTE...`.
+fn compare(p: Page, c: Command, out: &mut [u8], line: u64) -> Page {
+    let comparison = answers::comparison_of(c);
+    if is_brief(p, comparison.refusal) {
+        return report::verdict(p, out, line, comparison.refusal);
+    }
+    let end = text::put_either(out, p.waiting, comparison.equal, b"same\n", b"different\n");
+    report::turn(p, end)
+}
+
+// A command on sheets or checksums given.
+fn given(p: Page, c: Command, out: &mut [u8], line: u64) -> Page {
+    if c.name == script::command::SHEET {
+        return sheet(p, c, out, line);
+    }
+    if c.name == script::command::FIELD {
+        return field(p, c, out, line);
+    }
+    if c.name == script::command::STORE {
+        return store(p, c, out, line);
+    }
+    compare(p, c, out, line)
+}
+
+// A command that only asks.
+pub fn asked(p: Page, c: Command, m: Machine, out: &mut [u8], line: u64) -> Page
+    requires { ⌜ Sound (m .regs) (m .generator) ⌝ }
+{
+    let left = c.left;
+    let values = left.values;
+    if c.name == script::command::READ {
+        return read(p, m, out, line, values[0]);
+    }
+    if c.name == script::command::NINE {
+        return nine(p, m, out, line);
+    }
+    given(p, c, out, line)
+}

@@ -1,0 +1,433 @@
+// A session over a script (console.md), in one of three forms: answers, a waveform of the ticks, or the last picture.
+mod asks;
+
+ghost use Prim.Native.Nat.{_≤_};
+ghost use Rattle.generator.specs.Sound.{Sound};
+use machine::Machine;
+use report::Page;
+use says::ANSWERS;
+use says::PICTURE;
+use says::WAVE;
+use script::command::Command;
+
+// The machine, the bytes of memory lent, the lines read, and what has been said.
+struct Desk {
+    machine: Machine,
+    memory: u32,
+    lines: u64,
+    page: Page,
+}
+
+// The desk, the bytes held of a line that has not ended, and whether the script may go on.
+struct Left {
+    desk: Desk,
+    held: usize,
+    more: bool,
+}
+
+// The largest memory, and the largest picture.
+fn memory_room() -> [u8; 1048576] {
+    [0; 1048576]
+}
+
+fn picture_room() -> [u8; 3145728] {
+    [0; 3145728]
+}
+
+// The desk with more said.
+fn said(d: Desk, page: Page) -> Desk
+    requires { ⌜ Sound (d .machine .regs) (d .machine .generator) ⌝ }
+    ensures sound { λ r. ⌜ Sound (r .machine .regs) (r .machine .generator) ⌝ }
+{
+    let machine = d.machine;
+    Desk {
+        machine,
+        memory: d.memory,
+        lines: d.lines,
+        page,
+    }
+}
+
+// One tick's signals, or its refusal.
+fn told(p: Page, out: &mut [u8], line: u64, refusal: u32, s: generator::Signals) -> Page {
+    let page = report::space(p, out);
+    if refusal == 0 {
+        return report::tick(page, out, s);
+    }
+    report::refuse(page, out, line, refusal)
+}
+
+// Ticks that are shown, each as the form shows it.
+fn ticks(d: Desk, memory: &[u8], out: &mut [u8], count: u32) -> Desk
+    requires { ⌜ Sound (d .machine .regs) (d .machine .generator) ⌝ }
+    ensures sound { λ r. ⌜ Sound (r .machine .regs) (r .machine .generator) ⌝ }
+{
+    let mut m = d.machine;
+    let mut page = d.page;
+    let mut left = count;
+    while 0 < left {
+        let next = acts::tick(m, memory);
+        let refusal = next.refusal;
+        let signals = next.signals;
+        m = next.machine;
+        page = told(page, out, d.lines, refusal, signals);
+        left = base::first(refusal == 0, left - 1, 0);
+    }
+    Desk {
+        machine: m,
+        memory: d.memory,
+        lines: d.lines,
+        page,
+    }
+}
+
+// How many ticks a run has done, in answers.
+fn told_run(p: Page, out: &mut [u8], done: u32) -> Page {
+    if p.form == ANSWERS {
+        let end = text::put_count(out, p.waiting, b"ran ", done as u64);
+        return report::turn(p, end);
+    }
+    p
+}
+
+// What a run that is not shown says.
+fn ran(p: Page, out: &mut [u8], line: u64, done: u32, refusal: u32) -> Page {
+    let page = told_run(p, out, done);
+    if refusal == 0 {
+        return page;
+    }
+    report::refuse(page, out, line, refusal)
+}
+
+// Ticks that are not shown.
+fn run(d: Desk, memory: &[u8], out: &mut [u8], count: u32) -> Desk
+    requires { ⌜ Sound (d .machine .regs) (d .machine .generator) ⌝ }
+    ensures sound { λ r. ⌜ Sound (r .machine .regs) (r .machine .generator) ⌝ }
+{
+    let m = d.machine;
+    let before = d.page;
+    let done = acts::run(m, memory, count);
+    let machine = done.machine;
+    let page = ran(before, out, d.lines, done.done, done.refusal);
+    Desk {
+        machine,
+        memory: d.memory,
+        lines: d.lines,
+        page,
+    }
+}
+
+// `tick` or `run`: a waveform shows both, answers the first, a picture none. `tick` alone is one.
+fn timed(d: Desk, c: Command, memory: &[u8], out: &mut [u8]) -> Desk
+    requires { ⌜ Sound (d .machine .regs) (d .machine .generator) ⌝ }
+    ensures sound { λ r. ⌜ Sound (r .machine .regs) (r .machine .generator) ⌝ }
+{
+    let left = c.left;
+    let values = left.values;
+    let page = d.page;
+    let count = base::first(left.count == 0, 1, values[0]);
+    let lent = text::bytes::lent(memory, d.memory as usize);
+    let line_each = (page.form == ANSWERS) & (c.name == script::command::TICK);
+    if (page.form == WAVE) | line_each {
+        return ticks(d, lent, out, count);
+    }
+    run(d, lent, out, count)
+}
+
+// A picture's size, kept where it was drawn.
+fn sized(p: Page, m: Machine, refusal: u32) -> Page {
+    if refusal != 0 {
+        return p;
+    }
+    let size = acts::size_of(m);
+    let mut next = p;
+    next.width = size.width;
+    next.height = size.height;
+    next
+}
+
+// `picture LENGTH`, into a buffer of that length.
+fn pictured(d: Desk, memory: &[u8], buffer: &mut [u8], out: &mut [u8]) -> Desk
+    requires { ⌜ Sound (d .machine .regs) (d .machine .generator) ⌝ }
+    ensures sound { λ r. ⌜ Sound (r .machine .regs) (r .machine .generator) ⌝ }
+{
+    let m = d.machine;
+    let before = d.page;
+    let drawn = acts::draw(m, memory, buffer);
+    let machine = drawn.machine;
+    let refusal = drawn.refusal;
+    let kept = sized(before, machine, refusal);
+    let page = asks::shown(kept, out, d.lines, refusal, buffer);
+    Desk {
+        machine,
+        memory: d.memory,
+        lines: d.lines,
+        page,
+    }
+}
+
+// `picture LENGTH`.
+fn drawn(d: Desk, memory: &[u8], picture: &mut [u8], out: &mut [u8], length: u32) -> Desk
+    requires { ⌜ Sound (d .machine .regs) (d .machine .generator) ⌝ }
+    ensures sound { λ r. ⌜ Sound (r .machine .regs) (r .machine .generator) ⌝ }
+{
+    let size = length as usize;
+    let lent = text::bytes::lent(memory, d.memory as usize);
+    if picture.len() < size {
+        return d;
+    }
+    pictured(d, lent, &mut picture[..size], out)
+}
+
+// `write ADDRESS VALUE`.
+fn write(d: Desk, out: &mut [u8], address: u32, value: u32) -> Desk
+    requires { ⌜ Sound (d .machine .regs) (d .machine .generator) ⌝ }
+    ensures sound { λ r. ⌜ Sound (r .machine .regs) (r .machine .generator) ⌝ }
+{
+    let m = d.machine;
+    let before = d.page;
+    let w = acts::write(m, address, value);
+    let machine = w.machine;
+    let page = report::verdict(before, out, d.lines, w.refusal);
+    Desk {
+        machine,
+        memory: d.memory,
+        lines: d.lines,
+        page,
+    }
+}
+
+// `memory`, `poke` or `fill`.
+fn keep(d: Desk, c: Command, memory: &mut [u8], out: &mut [u8]) -> Desk
+    requires { ⌜ Sound (d .machine .regs) (d .machine .generator) ⌝ }
+    ensures sound { λ r. ⌜ Sound (r .machine .regs) (r .machine .generator) ⌝ }
+{
+    let machine = d.machine;
+    let before = d.page;
+    let lent = answers::kept(c, memory, d.memory);
+    let page = report::verdict(before, out, d.lines, 0);
+    Desk {
+        machine,
+        memory: lent,
+        lines: d.lines,
+        page,
+    }
+}
+
+// A good command.
+fn acted(d: Desk, c: Command, memory: &mut [u8], picture: &mut [u8], out: &mut [u8]) -> Desk
+    requires { ⌜ Sound (d .machine .regs) (d .machine .generator) ⌝ }
+    ensures sound { λ r. ⌜ Sound (r .machine .regs) (r .machine .generator) ⌝ }
+{
+    let left = c.left;
+    let values = left.values;
+    let kind = script::command::kind_of(c.name);
+    if kind == 0 {
+        return write(d, out, values[0], values[1]);
+    }
+    if kind == 1 {
+        return keep(d, c, memory, out);
+    }
+    if kind == 2 {
+        return timed(d, c, memory, out);
+    }
+    if kind == 3 {
+        return drawn(d, memory, picture, out, values[0]);
+    }
+    let m = d.machine;
+    let before = d.page;
+    let page = asks::asked(before, c, m, out, d.lines);
+    said(d, page)
+}
+
+// The desk at the next line.
+fn next_line(d: Desk, out: &[u8]) -> Desk
+    requires { ⌜ Sound (d .machine .regs) (d .machine .generator) ⌝ }
+    ensures sound { λ r. ⌜ Sound (r .machine .regs) (r .machine .generator) ⌝ }
+{
+    let machine = d.machine;
+    let before = d.page;
+    let page = report::space(before, out);
+    let lines = script::lines::one_more(d.lines);
+    Desk {
+        machine,
+        memory: d.memory,
+        lines,
+        page,
+    }
+}
+
+// A line that is no command.
+fn faulted(d: Desk, out: &mut [u8], fault: u32) -> Desk
+    requires { ⌜ Sound (d .machine .regs) (d .machine .generator) ⌝ }
+    ensures sound { λ r. ⌜ Sound (r .machine .regs) (r .machine .generator) ⌝ }
+{
+    let before = d.page;
+    let page = report::fault(before, out, d.lines, fault);
+    said(d, page)
+}
+
+// A whole line of the script.
+fn answered(d: Desk, line: &[u8], memory: &mut [u8], picture: &mut [u8], out: &mut [u8]) -> Desk
+    requires { ⌜ Sound (d .machine .regs) (d .machine .generator) ⌝ }
+    ensures sound { λ r. ⌜ Sound (r .machine .regs) (r .machine .generator) ⌝ }
+{
+    let next = next_line(d, out);
+    if script::lines::is_skipped(line) {
+        return next;
+    }
+    let c = script::command::line_command(line, next.memory);
+    if c.fault == 0 {
+        return acted(next, c, memory, picture, out);
+    }
+    faulted(next, out, c.fault)
+}
+
+// The lines that end in a piece of the script; what is left stands in `line`.
+fn pieced(
+    d: Desk,
+    piece: &[u8],
+    held: usize,
+    line: &mut [u8],
+    memory: &mut [u8],
+    picture: &mut [u8],
+    out: &mut [u8],
+) -> Left
+    requires { ⌜ Sound (d .machine .regs) (d .machine .generator) ⌝ }
+    ensures sound { λ r. ⌜ Sound (r .desk .machine .regs) (r .desk .machine .generator) ⌝ }
+{
+    let mut desk = d;
+    let mut count = held;
+    let mut at: usize = 0;
+    while at < piece.len() {
+        let taken = script::lines::take_line(piece, at, line, count);
+        at = taken.at;
+        count = taken.length;
+        if taken.ended {
+            desk = answered(
+                desk,
+                script::lines::line_of(line, count, true),
+                memory,
+                picture,
+                out,
+            );
+            count = 0;
+        }
+    }
+    Left {
+        desk,
+        held: count,
+        more: true,
+    }
+}
+
+// One read of the script, and the lines that end in it.
+fn read_some(
+    d: Left,
+    line: &mut [u8],
+    memory: &mut [u8],
+    picture: &mut [u8],
+    out: &mut [u8],
+) -> Left
+    requires { ⌜ Sound (d .desk .machine .regs) (d .desk .machine .generator) ⌝ }
+    ensures sound { λ r. ⌜ Sound (r .desk .machine .regs) (r .desk .machine .generator) ⌝ }
+{
+    let mut input = io::large_buffer();
+    let got = libc::read(0, &mut input);
+    let count = io::count(got, &input);
+    let desk = d.desk;
+    let mut left = pieced(desk, &input[..count], d.held, line, memory, picture, out);
+    left.more = 0 < count;
+    left
+}
+
+// The script's end: a last line may lack its own.
+fn finished(left: Left, line: &[u8], memory: &mut [u8], picture: &mut [u8], out: &mut [u8]) -> Page
+    requires { ⌜ Sound (left .desk .machine .regs) (left .desk .machine .generator) ⌝ }
+{
+    let desk = left.desk;
+    let held = left.held;
+    if held == 0 {
+        return desk.page;
+    }
+    let last = answered(
+        desk,
+        script::lines::line_of(line, held, false),
+        memory,
+        picture,
+        out,
+    );
+    last.page
+}
+
+// The last time of a waveform, after its last tick; what waits is written.
+fn closed(p: Page, out: &mut [u8]) -> Page {
+    if p.form == WAVE {
+        let end = text::put_count(out, p.waiting, b"#", p.ticks);
+        let page = report::turn(p, end);
+        return report::write(page, out);
+    }
+    report::write(p, out)
+}
+
+// A picture drawn, as a PPM on standard output; or a line on standard error.
+fn painted(p: Page, picture: &[u8], out: &mut [u8]) {
+    if (p.width == 0) | (p.height == 0) {
+        io::write_all(2, b"draw: no picture was drawn\n");
+        return;
+    }
+    let head = report::put_ppm(out, 0, p.width, p.height);
+    io::write_all(1, text::bytes::lent(out, head));
+    let pixels = base::product(p.width, p.height);
+    let size = base::product(3, pixels);
+    io::write_all(1, text::bytes::lent(picture, size as usize));
+}
+
+// The whole script. A loop has to end, and nothing says that a script does: it counts from a number that no script uses up.
+fn course(p: Page, memory: &mut [u8], picture: &mut [u8], out: &mut [u8]) -> Page {
+    let mut line = [0u8; 1002];
+    let machine = acts::begun();
+    let desk = Desk {
+        machine,
+        memory: 0,
+        lines: 0,
+        page: p,
+    };
+    let mut left = Left {
+        desk,
+        held: 0,
+        more: true,
+    };
+    let mut turns = u64::MAX;
+    while 0 < turns {
+        left = read_some(left, &mut line, memory, picture, out);
+        turns = base::choose(left.more, turns - 1, 0);
+    }
+    finished(left, &line, memory, picture, out)
+}
+
+// A page with its head.
+fn opened(form: u32, out: &mut [u8]) -> Page {
+    let page = report::blank_page(form);
+    if form == WAVE {
+        let end = wave::put_head(out, 0);
+        return report::turn(page, end);
+    }
+    page
+}
+
+// Reads a script on standard input and writes it in a form. Answers the ticks that were shown.
+pub fn session(form: u32) -> u64
+    ensures ticks { λ r. ⌜ r ≤ 0xFFFFFFFFFFFFFFFF ⌝ }
+{
+    let mut memory = memory_room();
+    let mut picture = picture_room();
+    let mut out = io::large_buffer();
+    let page = opened(form, &mut out);
+    let last = course(page, &mut memory, &mut picture, &mut out);
+    let end = closed(last, &mut out);
+    if form == PICTURE {
+        painted(end, &picture, &mut out);
+    }
+    end.ticks
+}
