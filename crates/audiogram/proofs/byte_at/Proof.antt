@@ -1,3 +1,4 @@
+-- `audiogram::byte_at` meets its contract. Assumes nothing.
 use Rattle.audiogram.specs.Picture.{byteAt}
 use borrow.Author.Needs.{needs}
 use Rattle.audiogram.proofs.byte_at.Statement.{statement}

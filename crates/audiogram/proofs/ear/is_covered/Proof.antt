@@ -1,3 +1,4 @@
+-- `audiogram::ear::is_covered` meets its contract. Assumes nothing.
 use Rattle.audiogram.specs.Ear.{coveredAt}
 use borrow.Author.Needs.{needs}
 use Rattle.audiogram.proofs.ear.is_covered.Statement.{statement}

@@ -1,3 +1,4 @@
+-- `audiogram::ear::key_of` meets its contract. Assumes nothing.
 use Rattle.audiogram.proofs.ear.key_of.Statement.{statement}
 use Rattle.audiogram.proofs.ear.key_of.Tie as tie
 

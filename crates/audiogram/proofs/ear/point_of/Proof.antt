@@ -1,3 +1,4 @@
+-- `audiogram::ear::point_of` meets its contract. Assumes nothing.
 use borrow.Author.Needs.{needs}
 use Rattle.audiogram.proofs.ear.point_of.Statement.{statement}
 use Rattle.audiogram.proofs.ear.point_of.Tie as tie

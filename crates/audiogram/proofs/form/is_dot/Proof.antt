@@ -1,3 +1,4 @@
+-- `audiogram::form::is_dot` meets its contract. Assumes nothing.
 use Rattle.audiogram.specs.Form.{dot}
 use borrow.Author.Needs.{needs}
 use Rattle.audiogram.proofs.form.is_dot.Statement.{statement}

@@ -1,3 +1,4 @@
+-- `audiogram::form::is_dot_inside` meets its contract. Assumes nothing.
 use borrow.Author.Needs.{needs}
 use Rattle.audiogram.proofs.form.is_dot_inside.Statement.{statement}
 use Rattle.audiogram.proofs.form.is_dot_inside.Tie as tie

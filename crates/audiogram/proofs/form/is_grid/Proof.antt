@@ -1,3 +1,4 @@
+-- `audiogram::form::is_grid` meets its contract. Assumes nothing.
 use Rattle.audiogram.specs.Form.{grid}
 use borrow.Author.Needs.{needs}
 use Rattle.audiogram.proofs.form.is_grid.Statement.{statement}

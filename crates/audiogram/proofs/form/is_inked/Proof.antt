@@ -1,3 +1,4 @@
+-- `audiogram::form::is_inked` meets its contract. Assumes nothing.
 use Rattle.audiogram.specs.Form.{inked}
 use borrow.Author.Needs.{needs}
 use Rattle.audiogram.proofs.form.is_inked.Statement.{statement}

@@ -1,3 +1,4 @@
+-- `audiogram::form::is_label` meets its contract. Assumes nothing.
 use Rattle.audiogram.specs.Form.{labelled}
 use borrow.Author.Needs.{needs}
 use Rattle.audiogram.proofs.form.is_label.Statement.{statement}

@@ -1,3 +1,4 @@
+-- `audiogram::form::is_text` meets its contract. Assumes nothing.
 use Rattle.audiogram.specs.Form.{textAt}
 use borrow.Author.Needs.{needs}
 use Rattle.audiogram.proofs.form.is_text.Statement.{statement}

@@ -1,3 +1,4 @@
+-- `audiogram::marks::distance` meets its contract. Assumes nothing.
 use borrow.Author.Needs.{needs}
 use Rattle.audiogram.proofs.marks.distance.Statement.{statement}
 use Rattle.audiogram.proofs.marks.distance.Tie as tie

@@ -1,3 +1,4 @@
+-- `audiogram::marks::is_cross` meets its contract. Assumes nothing.
 use borrow.Author.Needs.{needs}
 use Rattle.audiogram.proofs.marks.is_cross.Statement.{statement}
 use Rattle.audiogram.proofs.marks.is_cross.Tie as tie

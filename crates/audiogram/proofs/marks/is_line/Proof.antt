@@ -1,3 +1,4 @@
+-- `audiogram::marks::is_line` meets its contract. Assumes nothing.
 use Rattle.audiogram.specs.Marks.{line}
 use borrow.Author.Needs.{needs}
 use Rattle.audiogram.proofs.marks.is_line.Statement.{statement}

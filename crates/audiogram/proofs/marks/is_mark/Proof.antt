@@ -1,3 +1,4 @@
+-- `audiogram::marks::is_mark` meets its contract. Assumes nothing.
 use Rattle.audiogram.specs.Marks.{mark}
 use borrow.Author.Needs.{needs}
 use Rattle.audiogram.proofs.marks.is_mark.Statement.{statement}

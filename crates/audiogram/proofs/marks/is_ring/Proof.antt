@@ -1,3 +1,4 @@
+-- `audiogram::marks::is_ring` meets its contract. Assumes nothing.
 use borrow.Author.Needs.{needs}
 use Rattle.audiogram.proofs.marks.is_ring.Statement.{statement}
 use Rattle.audiogram.proofs.marks.is_ring.Tie as tie

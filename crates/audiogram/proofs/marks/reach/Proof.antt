@@ -1,3 +1,4 @@
+-- `audiogram::marks::reach` meets its contract. Assumes nothing.
 use borrow.Author.Needs.{needs}
 use Rattle.audiogram.proofs.marks.reach.Statement.{statement}
 use Rattle.audiogram.proofs.marks.reach.Tie as tie

@@ -1,3 +1,4 @@
+-- `chart::patient::ear_after` meets its contract. Assumes nothing.
 use mathlib.Core.Path.{_∙_, ap}
 use Rattle.chart.specs.Patient.{levelOf}
 use borrow.Author.Needs.{needs}

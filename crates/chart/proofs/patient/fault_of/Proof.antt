@@ -1,3 +1,4 @@
+-- `chart::patient::fault_of` meets its contract. Assumes nothing.
 use borrow.Author.Needs.{needs}
 use Rattle.chart.proofs.patient.fault_of.Statement.{statement}
 use Rattle.chart.proofs.patient.fault_of.Tie as tie

@@ -1,3 +1,4 @@
+-- `chart::patient::head` meets its contract. Assumes nothing.
 use Rattle.chart.proofs.Cases.{none-there}
 use native.Mathlib.Omega.{arith}
 use borrow.Author.Needs.{needs}

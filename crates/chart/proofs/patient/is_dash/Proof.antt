@@ -1,3 +1,4 @@
+-- `chart::patient::is_dash` meets its contract. Assumes nothing.
 use borrow.Author.Needs.{needs}
 use Rattle.chart.proofs.patient.is_dash.Statement.{statement}
 use Rattle.chart.proofs.patient.is_dash.Tie as tie

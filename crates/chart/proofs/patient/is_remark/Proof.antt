@@ -1,3 +1,4 @@
+-- `chart::patient::is_remark` meets its contract. Assumes nothing.
 use Rattle.script.specs.Words.{wordAt}
 use borrow.Author.Needs.{needs}
 use Rattle.chart.proofs.patient.is_remark.Statement.{statement}

@@ -1,3 +1,4 @@
+-- `chart::patient::is_silent` meets its contract. Assumes nothing.
 use borrow.Author.Needs.{needs}
 use Rattle.chart.proofs.patient.is_silent.Statement.{statement}
 use Rattle.chart.proofs.patient.is_silent.Tie as tie

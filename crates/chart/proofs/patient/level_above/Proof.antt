@@ -1,3 +1,4 @@
+-- `chart::patient::level_above` meets its contract. Assumes nothing.
 use Rattle.chart.proofs.Cases.{wrong-none, above-good, above-wrong}
 use native.Mathlib.Omega.{arith}
 use mathlib.Core.Path.{sym, _∙_}

@@ -1,3 +1,4 @@
+-- `chart::patient::level_below` meets its contract. Assumes nothing.
 use mathlib.Core.Path.{_∙_, ap}
 use Rattle.chart.specs.Patient.{stepped}
 use Rattle.chart.proofs.Cases.{below-good, below-wrong}

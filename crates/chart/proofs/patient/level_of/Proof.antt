@@ -1,3 +1,4 @@
+-- `chart::patient::level_of` meets its contract. Assumes nothing.
 use mathlib.Core.Path.{_∙_, ap}
 use Rattle.chart.specs.Patient.{plainNumber, levelBelow, levelAbove}
 use Rattle.chart.proofs.Cases.{level-dash, level-negative, level-positive}

@@ -1,3 +1,4 @@
+-- `chart::patient::placed` meets its contract. Assumes nothing.
 use Rattle.chart.proofs.Cases.{placed-good, placed-wrong}
 use Rattle.chart.specs.Patient.{placedFault}
 use borrow.Author.Needs.{needs}

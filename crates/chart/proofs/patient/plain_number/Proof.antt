@@ -1,3 +1,4 @@
+-- `chart::patient::plain_number` meets its contract. Assumes nothing.
 use Rattle.chart.proofs.Cases.{number-hexadecimal, number-plain}
 use borrow.Author.Needs.{needs}
 use Rattle.chart.proofs.patient.plain_number.Statement.{statement}

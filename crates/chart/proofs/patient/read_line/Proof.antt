@@ -1,3 +1,4 @@
+-- `chart::patient::read_line` meets its contract. Assumes nothing.
 use Rattle.chart.proofs.Cases.{line-remark, line-long, line-words}
 use borrow.Author.Needs.{needs}
 use Rattle.chart.proofs.patient.read_line.Statement.{statement}

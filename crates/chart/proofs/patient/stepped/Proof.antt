@@ -1,3 +1,4 @@
+-- `chart::patient::stepped` meets its contract. Assumes nothing.
 use Rattle.chart.proofs.Cases.{step-whole, step-part}
 use borrow.Author.Needs.{needs}
 use Rattle.chart.proofs.patient.stepped.Statement.{statement}

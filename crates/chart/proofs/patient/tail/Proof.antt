@@ -1,3 +1,4 @@
+-- `chart::patient::tail` meets its contract. Assumes nothing.
 use Rattle.chart.proofs.Cases.{none-left, all-left}
 use native.Mathlib.Omega.{arith}
 use borrow.Author.Needs.{needs}

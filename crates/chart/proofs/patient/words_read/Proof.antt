@@ -1,3 +1,4 @@
+-- `chart::patient::words_read` meets its contract. Assumes nothing.
 use Rattle.script.specs.Words.{wordAt}
 use Rattle.chart.specs.Patient.{wordsRead}
 use borrow.Author.Needs.{needs}

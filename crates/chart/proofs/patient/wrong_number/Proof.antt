@@ -1,3 +1,4 @@
+-- `chart::patient::wrong_number` meets its contract. Assumes nothing.
 use Rattle.chart.specs.Patient.{wrongNumber}
 use borrow.Author.Needs.{needs}
 use Rattle.chart.proofs.patient.wrong_number.Statement.{statement}

@@ -1,3 +1,4 @@
+-- `chart::settings::byte_word` meets its contract. Assumes nothing.
 use borrow.Author.Needs.{needs}
 use Rattle.chart.proofs.settings.byte_word.Statement.{statement}
 use Rattle.chart.proofs.settings.byte_word.Tie as tie

@@ -1,3 +1,4 @@
+-- `chart::settings::poke_byte` meets its contract. Assumes nothing.
 use Rattle.chart.proofs.Cases.{poke-front, poke-middle, poke-end}
 use borrow.Author.Needs.{needs}
 use Rattle.chart.proofs.settings.poke_byte.Statement.{statement}

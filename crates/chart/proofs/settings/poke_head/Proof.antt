@@ -1,3 +1,4 @@
+-- `chart::settings::poke_head` meets its contract. Assumes nothing.
 use borrow.Author.Needs.{needs}
 use Rattle.chart.proofs.settings.poke_head.Statement.{statement}
 use Rattle.chart.proofs.settings.poke_head.Tie as tie

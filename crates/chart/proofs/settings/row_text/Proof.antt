@@ -1,3 +1,4 @@
+-- `chart::settings::row_text` meets its contract. Assumes nothing.
 use borrow.Author.Needs.{needs}
 use Rattle.chart.proofs.settings.row_text.Statement.{statement}
 use Rattle.chart.proofs.settings.row_text.Tie as tie

@@ -1,3 +1,4 @@
+-- `chart::settings::settings_byte` meets its contract. Assumes nothing.
 use Rattle.chart.specs.Settings.{settingsByte}
 use borrow.Author.Needs.{needs}
 use Rattle.chart.proofs.settings.settings_byte.Statement.{statement}
