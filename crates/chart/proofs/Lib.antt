@@ -1,3 +1,4 @@
 -- Laws of a patient's sheet and of the script that draws it.
 pub mod Cases
 pub mod Colours
+pub mod Worked

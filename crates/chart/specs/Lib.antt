@@ -2,3 +2,4 @@
 pub mod Patient
 pub mod Settings
 pub mod Started
+pub mod Examples
