@@ -33,7 +33,7 @@ unfolding refusals Parameters.screenOf Limits.laterLimit Limits.limitOf Map.plac
 settings-accepted = refl
 
 -- the colour that the machine then has for an entry
-abbrev colour : ℕ → ℕ
+abbrev pub colour : ℕ → ℕ
 colour entry = maskedColour (started .regs .palette) (started .regs .mask) entry
 
 -- right ear red, left ear blue, paper white, form grey
@@ -75,10 +75,10 @@ started-control = refl
 
 module _ (right left memory : List ℕ) (room : size ≤ length memory) (p : Point) (h : p .x < 640) (l : p .y < 480) where
   -- the colour that goes out for a pixel of the chart
-  abbrev shown : ℕ
+  abbrev pub shown : ℕ
   shown = dotAt (started .regs) (started .regs .position) (drawn right left memory) (p .y * 640 + p .x) (p .x) (p .y) .colour
 
-  shown-entry : shown ≡ colour (entryAt right left p)
+  pub shown-entry : shown ≡ colour (entryAt right left p)
   unfolding dotAt pixelShown
   shown-entry = rw (started-control, drawn-pixel right left memory room p h l)
 

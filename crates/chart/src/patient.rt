@@ -3,7 +3,8 @@ ghost use mathlib.Core.Path.{_≡_};
 ghost use Prim.Native.Nat.{_≤_};
 ghost use lib.ListN.{getD, length, drop, set};
 ghost use Rattle.script.specs.Words.{front, skip, past, wordAt};
-ghost use Rattle.chart.specs.Patient.{plainNumber, dash, wrongNumber, stepped, levelAbove, levelBelow, levelOf, foundUpTo, frequencyOf, faultOf, placed, wordsRead, silent, lineRead, fresh};
+ghost use Rattle.chart.specs.Patient.{plainNumber, dash, wrongNumber, stepped, levelAbove, levelBelow, levelOf, frequencyOf};
+ghost use Rattle.chart.specs.Patient.{faultOf, placed, wordsRead, silent, lineRead, fresh};
 use audiogram::Chart;
 use script::number::Number;
 
