@@ -1,11 +1,26 @@
 #!/bin/sh
-# check.sh: draws each patient of this folder through the machine and holds the picture to what the patient's own file says.
+# check.sh: tries wrong sheets, then draws each patient of this folder through the machine and holds the picture to what the file says.
 # Nothing here comes from the chart program: where a mark must stand is worked out from the file in awk, by the audiogram's axes
 # (an octave is 64 pixels from 125 Hz at column 112, 10 dB are 32 pixels from -10 dB at line 36).
 set -eu
 here=$(cd "$(dirname "$0")" && pwd -P)
 answers=$(mktemp)
 trap 'rm -f "$answers"' EXIT
+# wrong SHEET MESSAGE: the sheet gets that message on standard error and nothing on standard output.
+wrong() {
+    printf "$1" | "$here/../run" chart 2>&1 >"$answers" | grep -qxF "$2" || { echo "no '$2'"; exit 1; }
+    [ ! -s "$answers" ] || { echo "a script after '$2'"; exit 1; }
+}
+wrong '1100 0 0\n' 'line 1: unknown frequency'
+wrong '; Hz\n\n1000 0 0\n1000 5 5\n' 'line 4: frequency given twice'
+wrong '125 0 0\r\n1000 0\r\n' 'line 2: missing ear'
+wrong '1000\t0 0 0' 'line 1: too many words'
+wrong '1000 x 0\n' 'line 1: level not a number'
+wrong '1000 0 125\n' 'line 1: level out of range, -10 to 120'
+wrong '1000 -15 0\n' 'line 1: level out of range, -10 to 120'
+wrong '1000 0 12\n250 0\n' 'line 1: level not a step of 5'
+wrong "$(printf '%1001s' 250) 0 0\n" 'line 1: line too long'
+echo "nine wrong sheets: each named, and no script"
 for patient in "$here"/*.txt; do
     "$here/../run" chart <"$patient" | "$here/../run" bench >"$answers"
     awk -v name="$(basename "$patient" .txt)" '

@@ -1,9 +1,8 @@
 -- The picture: an entry for each pixel, four pixels to a byte, least significant bits first. Assumes nothing.
 use Prim.Native.Nat.{ℕ, _+_, _*_, _/_, _%_, min}
-use mathlib.Core.Bool.{cond}
+use mathlib.Core.Bool.{true, false, cond}
 use mathlib.Core.List.{List, _++_}
 use lib.ListN.{length, drop}
-use mathlib.Core.Bool.{true, false}
 use Rattle.base.specs.Count.{run}
 use Rattle.audiogram.specs.Ear.{shows}
 use Rattle.audiogram.specs.Form.{form}
