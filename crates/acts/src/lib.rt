@@ -128,7 +128,7 @@ pub fn size_of(m: Machine) -> Size
 {
     let regs = m.regs;
     let params = regs.params;
-    let s = screen::screen_of(params);
+    let s = units::screen_of(params);
     Size {
         width: base::product(4, s.display.0),
         height: s.vdisplay.0 / 2,
