@@ -14,11 +14,11 @@ use Rattle.base.proofs.Run.{run-length, run-entry}
 use Rattle.frame.proofs.Some.{some-none, some-at}
 use Rattle.pixel.specs.Memory.{pixelAt}
 use Rattle.pixel.proofs.Bytes.{pixel-inside}
-use Rattle.audiogram.specs.Marks.{mark}
-use Rattle.audiogram.specs.Ear.{measured, columns, pointOf, keyOf, lastBefore, coveredAt, shows}
-use Rattle.audiogram.specs.Form.{form}
+use Rattle.ear.specs.Marks.{mark}
+use Rattle.ear.specs.Ear.{measured, columns, pointOf, keyOf, lastBefore, coveredAt, shows}
+use Rattle.form.specs.Form.{form}
 use Rattle.audiogram.specs.Picture.{paperEntry, rightEntry, leftEntry, formEntry, entryAt, size, byteAt, drawn}
-use Rattle.audiogram.specs.declared.marks.Point.{Point}
+use Rattle.ear.specs.declared.marks.Point.{Point}
 
 -- ---- entries
 

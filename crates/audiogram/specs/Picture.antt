@@ -4,9 +4,9 @@ use mathlib.Core.Bool.{true, false, cond}
 use mathlib.Core.List.{List, _++_}
 use lib.ListN.{length, drop}
 use Rattle.base.specs.Count.{run}
-use Rattle.audiogram.specs.Ear.{shows}
-use Rattle.audiogram.specs.Form.{form}
-use Rattle.audiogram.specs.declared.marks.Point.{Point}
+use Rattle.ear.specs.Ear.{shows}
+use Rattle.form.specs.Form.{form}
+use Rattle.ear.specs.declared.marks.Point.{Point}
 
 -- the palette entries: paper, right ear, left ear, form
 abbrev pub paperEntry : ℕ

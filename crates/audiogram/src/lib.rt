@@ -1,12 +1,8 @@
 // A clinical audiogram in picture memory: 640 by 480 pixels of 2 bits, four to a byte, least significant bits first.
-mod ear;
-mod form;
-mod marks;
-
 ghost use mathlib.Core.Path.{_≡_};
 ghost use Prim.Native.Nat.{_<_, _≤_, min};
 ghost use Rattle.audiogram.specs.Picture.{entryAt, byteAt, drawn, size};
-use crate::marks::Point;
+use ear::marks::Point;
 
 // Levels by frequency, 125 to 8000 Hz: number n is -10 + 5 x n dB hearing level, up to 26; a larger one is not measured.
 pub struct Chart {

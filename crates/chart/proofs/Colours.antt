@@ -15,9 +15,9 @@ use Rattle.pixel.specs.Memory.{pixelShown}
 use Rattle.pixel.specs.Colour.{maskedColour}
 use Rattle.pixel.specs.Dot.{dotAt}
 use Rattle.machine.specs.Rules
-use Rattle.audiogram.specs.Ear.{shows}
+use Rattle.ear.specs.Ear.{shows}
 use Rattle.audiogram.specs.Picture.{paperEntry, rightEntry, leftEntry, formEntry, entryAt, size, drawn}
-use Rattle.audiogram.specs.declared.marks.Point.{Point}
+use Rattle.ear.specs.declared.marks.Point.{Point}
 use Rattle.audiogram.proofs.Theorems.{drawn-pixel, entry-bound, right-where-shown, right-only-shown, left-where-shown, left-only-shown}
 use Rattle.chart.specs.Settings.{settings, settingsByte, settingsText}
 use Rattle.chart.specs.Started.{textOf, writes, refusals, table, started}

@@ -26,7 +26,7 @@ use Rattle.frame.specs.Frame
 use Rattle.frame.specs.Demand.{firstPlace, Ready}
 use Rattle.frame.proofs.Demand.{demand-3}
 use Rattle.audiogram.specs.Picture.{entryAt, size, drawn}
-use Rattle.audiogram.specs.declared.marks.Point.{Point}
+use Rattle.ear.specs.declared.marks.Point.{Point}
 use Rattle.audiogram.proofs.Theorems.{drawn-length}
 use Rattle.chart.specs.Settings.{addressOf, valueOf}
 use Rattle.chart.specs.Started.{writes, table, started}

@@ -1,0 +1,2 @@
+-- Laws of an ear's marks and lines.
+mod Cases

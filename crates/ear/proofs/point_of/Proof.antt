@@ -1,0 +1,17 @@
+-- `ear::point_of` meets its contract. Assumes nothing.
+use borrow.Author.Needs.{needs}
+use Rattle.ear.proofs.point_of.Statement.{statement}
+use Rattle.ear.proofs.point_of.Tie as tie
+
+pub point-of-spec : {M : Type 1} → statement M
+point-of-spec =
+    tie.close
+    (tie.spec
+    (λ c. search needs)
+    (λ c κs. search needs)
+    (λ c. search needs)
+    (λ c. search needs)
+    (λ c. search needs)
+    (λ c. search needs)
+    (λ c. search needs)
+    (λ c. cc))

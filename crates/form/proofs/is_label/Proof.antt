@@ -1,0 +1,19 @@
+-- `form::is_label` meets its contract. Assumes nothing.
+use Rattle.form.specs.Form.{labelled}
+use borrow.Author.Needs.{needs}
+use Rattle.form.proofs.is_label.Statement.{statement}
+use Rattle.form.proofs.is_label.Tie as tie
+
+pub is-label-spec : {M : Type 1} → statement M
+unfolding labelled
+is-label-spec =
+    tie.close
+    (tie.spec
+    (λ c. search needs)
+    (λ c. search needs)
+    (λ c. search needs)
+    (λ c. search needs)
+    (λ c. search needs)
+    (λ c. search needs)
+    (λ c κs. search needs)
+    (λ c. cc))
