@@ -19,7 +19,7 @@ use Rattle.ear.specs.Ear.{shows}
 use Rattle.audiogram.specs.Picture.{paperEntry, rightEntry, leftEntry, formEntry, entryAt, size, drawn}
 use Rattle.ear.specs.declared.marks.Point.{Point}
 use Rattle.audiogram.proofs.Theorems.{drawn-pixel, entry-bound, right-where-shown, right-only-shown, left-where-shown, left-only-shown}
-use Rattle.chart.specs.Settings.{settings, settingsByte, settingsText}
+use Rattle.settings.specs.Settings.{settings, settingsByte, settingsText}
 use Rattle.chart.specs.Started.{textOf, writes, refusals, table, started}
 
 -- the text written is the table's, row by row

@@ -28,7 +28,7 @@ use Rattle.frame.proofs.Demand.{demand-3}
 use Rattle.audiogram.specs.Picture.{entryAt, size, drawn}
 use Rattle.ear.specs.declared.marks.Point.{Point}
 use Rattle.audiogram.proofs.Theorems.{drawn-length}
-use Rattle.chart.specs.Settings.{addressOf, valueOf}
+use Rattle.settings.specs.Settings.{addressOf, valueOf}
 use Rattle.chart.specs.Started.{writes, table, started}
 use Rattle.chart.proofs.Colours.{colour, shown-entry}
 

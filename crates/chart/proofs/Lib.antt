@@ -1,5 +1,3 @@
--- Laws of a patient's sheet and of the script that draws it.
-pub mod Cases
+-- Laws of the script that draws a patient's chart.
 pub mod Colours
 pub mod Frame
-pub mod Worked

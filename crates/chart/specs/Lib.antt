@@ -1,5 +1,2 @@
--- The rules of a patient's sheet and of the script that draws it.
-pub mod Patient
-pub mod Settings
+-- The rules of the script's register writes.
 pub mod Started
-pub mod Examples

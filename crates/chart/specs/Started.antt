@@ -3,7 +3,7 @@ use Prim.Native.Nat.{ℕ}
 use mathlib.Core.List.{List, [], _∷_, _++_}
 use Rattle.machine.specs.Rules.{beginning, written}
 use Rattle.machine.specs.declared.Machine.{Machine}
-use Rattle.chart.specs.Settings.{addressOf, valueOf, rowText, settings, start}
+use Rattle.settings.specs.Settings.{addressOf, valueOf, rowText, settings, start}
 
 -- what is written for a table: the text of each row
 unfoldable pub textOf : List ℕ → List ℕ

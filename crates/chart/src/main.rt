@@ -1,7 +1,4 @@
 // Reads a patient's thresholds on standard input and writes the bench script that draws their chart; a wrong line is named on standard error.
-mod patient;
-mod settings;
-
 use audiogram::Chart;
 
 // The chart read so far, the lines read, a fault or 0, the bytes held of a line that has not ended, and whether more may come.

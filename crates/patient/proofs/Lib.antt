@@ -1,0 +1,3 @@
+-- Laws of a patient's sheet.
+mod Cases
+pub mod Worked

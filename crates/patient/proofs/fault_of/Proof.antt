@@ -1,0 +1,15 @@
+-- `patient::fault_of` meets its contract. Assumes nothing.
+use borrow.Author.Needs.{needs}
+use Rattle.patient.proofs.fault_of.Statement.{statement}
+use Rattle.patient.proofs.fault_of.Tie as tie
+
+pub fault-of-spec : {M : Type 1} → statement M
+fault-of-spec =
+    tie.close
+    (tie.spec
+    (λ c κs. search needs)
+    (λ c κs. search needs)
+    (λ c κs. search needs)
+    (λ c κs. search needs)
+    (λ c κs. search needs)
+    (λ c. cc))

@@ -1,0 +1,17 @@
+-- `patient::is_remark` meets its contract. Assumes nothing.
+use Rattle.script.specs.Words.{wordAt}
+use borrow.Author.Needs.{needs}
+use Rattle.patient.proofs.is_remark.Statement.{statement}
+use Rattle.patient.proofs.is_remark.Tie as tie
+
+pub is-remark-spec : {M : Type 1} → statement M
+unfolding wordAt
+is-remark-spec =
+    tie.close
+    (tie.spec
+    (λ c κs. search needs)
+    (λ c. search needs)
+    (λ c. search needs)
+    (λ c. search needs)
+    (λ c κs. search needs)
+    (λ c. cc))

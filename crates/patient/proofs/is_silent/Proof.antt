@@ -1,0 +1,13 @@
+-- `patient::is_silent` meets its contract. Assumes nothing.
+use borrow.Author.Needs.{needs}
+use Rattle.patient.proofs.is_silent.Statement.{statement}
+use Rattle.patient.proofs.is_silent.Tie as tie
+
+head-requires : tie.Need-head-requires
+head-requires c κs = search needs
+
+returns : tie.Need-returns
+returns c = cc
+
+pub is-silent-spec : {M : Type 1} → statement M
+is-silent-spec = tie.close (tie.spec head-requires returns)

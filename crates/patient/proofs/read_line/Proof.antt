@@ -1,0 +1,24 @@
+-- `patient::read_line` meets its contract. Assumes nothing.
+use Rattle.patient.proofs.Cases.{line-remark, line-long, line-words}
+use borrow.Author.Needs.{needs}
+use Rattle.patient.proofs.read_line.Statement.{statement}
+use Rattle.patient.proofs.read_line.Tie as tie
+
+is-remark-requires : tie.Need-is-remark-requires
+is-remark-requires c κs = search needs
+
+returns : tie.Need-returns
+returns c = search line-remark
+
+returns-2 : tie.Need-returns-2
+returns-2 c = search line-long
+
+words-read-requires : tie.Need-words-read-requires
+words-read-requires c κs = search needs
+
+returns-3 : tie.Need-returns-3
+returns-3 c = search line-words
+
+pub read-line-spec : {M : Type 1} → statement M
+read-line-spec =
+    tie.close (tie.spec is-remark-requires returns returns-2 words-read-requires returns-3)
