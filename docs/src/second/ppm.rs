@@ -18,23 +18,22 @@ fn number(word: &str) -> u32 {
     }
 }
 
-fn is_row(answer: &str) -> bool {
-    !answer.is_empty() && answer.len() <= 64 && answer.len() % 2 == 0 && answer.bytes().all(|b| b.is_ascii_digit() || (b'A'..=b'F').contains(&b))
-}
-
 fn main() {
     let path = env::args().nth(1).expect("ppm SCRIPT < ANSWERS");
     let script: String = fs::read(path).expect("the script").iter().map(|&b| b as char).collect();
     let mut answers = io::stdin().lock().lines().map(|l| l.unwrap()).peekable();
     let (mut display, mut vdisplay) = (0, 0);
     let mut drawn: Option<(u32, u32, Vec<u8>)> = None;
-    for line in script.split('\n').map(|l| l.strip_suffix('\r').unwrap_or(l)) {
-        if line.is_empty() || line.starts_with(';') {
+    for (place, line) in script.split('\n').enumerate() {
+        let line = line.strip_suffix('\r').unwrap_or(line);
+        // An error names its line: a command may answer nothing, as `tick 0` does.
+        let fault = format!("error {} ", place + 1);
+        if answers.next_if(|a| a.starts_with(&fault)).is_some() || line.is_empty() || line.starts_with(';') {
             continue;
         }
         let words: Vec<&str> = line.split([' ', '\t']).filter(|w| !w.is_empty()).collect();
-        let name = words.first().copied().unwrap_or("");
-        if name == "tick" && !answers.peek().is_some_and(|a| a.starts_with("error ")) {
+        let name = words[0];
+        if name == "tick" {
             for _ in 0..words.get(1).map_or(1, |w| number(w)) {
                 if answers.next().expect("an answer to each tick").starts_with("refused ") {
                     break;
@@ -43,8 +42,11 @@ fn main() {
             continue;
         }
         let answer = answers.next().expect("an answer to each command");
-        if name == "run" && answer.starts_with("ran ") && answers.peek().is_some_and(|a| a.starts_with("refused ")) {
-            answers.next();
+        if name == "run" {
+            let done: u32 = answer["ran ".len()..].parse().unwrap();
+            if done < number(words[1]) {
+                answers.next().expect("its refusal");
+            }
         }
         if answer != "ok" {
             continue;
@@ -54,8 +56,8 @@ fn main() {
             "write" if number(words[1]) == 0x02A => vdisplay = number(words[2]),
             "picture" | "store" => {
                 let mut bytes = Vec::new();
-                while answers.peek().is_some_and(|a| is_row(a)) {
-                    let row = answers.next().unwrap();
+                for _ in 0..number(words[1]).div_ceil(32) {
+                    let row = answers.next().expect("the bytes");
                     bytes.extend((0..row.len() / 2).map(|i| u8::from_str_radix(&row[2 * i..2 * i + 2], 16).unwrap()));
                 }
                 if name == "picture" {

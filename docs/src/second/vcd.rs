@@ -32,9 +32,10 @@ fn command(line: &str) -> Option<&str> {
     Some(line.split([' ', '\t']).find(|word| !word.is_empty()).unwrap_or(""))
 }
 
+/// The lines of a script, a character for each byte, without their ends.
 fn lines_of(path: &str) -> Vec<String> {
     let bytes = fs::read(path).expect("the script");
-    let text: String = bytes.iter().map(|&b| b as char).collect();
+    let text: String = bytes.iter().map(|&b| if b.is_ascii() { b as char } else { '?' }).collect();
     let mut lines: Vec<String> = text.split('\n').map(|l| l.strip_suffix('\r').unwrap_or(l).to_string()).collect();
     if lines.last().is_some_and(|l| l.is_empty()) {
         lines.pop();
@@ -115,23 +116,29 @@ fn head(out: &mut impl Write) {
     writeln!(out, "$enddefinitions $end").unwrap();
 }
 
-/// How many ticks a good `tick` asks for.
-fn asked(line: &str) -> u64 {
-    let word = line.split([' ', '\t']).filter(|w| !w.is_empty()).nth(1);
-    match word {
-        None => 1,
-        Some(hex) if hex.starts_with('#') => u64::from_str_radix(&hex[1..], 16).unwrap(),
-        Some(number) => number.parse().unwrap(),
-    }
+/// The first number of a good line, where it has one.
+fn asked(line: &str) -> Option<u64> {
+    let word = line.split([' ', '\t']).filter(|w| !w.is_empty()).nth(1)?;
+    Some(match word.strip_prefix('#') {
+        Some(hex) => u64::from_str_radix(hex, 16).unwrap(),
+        None => word.parse().unwrap(),
+    })
 }
 
 fn main() {
     let words: Vec<String> = env::args().skip(1).collect();
     if words.len() == 2 && words[0] == "ticked" {
-        for line in lines_of(&words[1]) {
-            match line.strip_prefix("run ") {
-                Some(count) => println!("tick {count}"),
-                None => println!("{line}"),
+        let bytes = fs::read(&words[1]).expect("the script");
+        let mut out = io::stdout().lock();
+        for raw in bytes.split_inclusive(|&b| b == b'\n') {
+            // `run` alone is an error, and `tick` alone is not.
+            let at = raw.iter().position(|b| !b" \t".contains(b)).unwrap_or(0);
+            let counted = raw[at..].starts_with(b"run ") || raw[at..].starts_with(b"run\t");
+            let more = raw[at..].iter().skip(3).any(|b| !b" \t\r\n".contains(b));
+            if counted && more {
+                out.write_all(&[&raw[..at], b"tick", &raw[at + 3..]].concat()).unwrap();
+            } else {
+                out.write_all(raw).unwrap();
             }
         }
         return;
@@ -141,12 +148,17 @@ fn main() {
     head(&mut wave.out);
     for (number, line) in lines_of(&words[0]).iter().enumerate().map(|(i, l)| (i + 1, l)) {
         let Some(name) = command(line) else { continue };
-        let shown = name == "tick" || name == "run";
-        if shown && !answers.peek().is_some_and(|a| a.starts_with("error ")) {
-            for _ in 0..asked(line) {
+        // An error names its line: a command may answer nothing, as `tick 0` does.
+        let fault = format!("error {number} ");
+        if let Some(answer) = answers.next_if(|a| a.starts_with(&fault)) {
+            wave.comment(number, &answer[fault.len()..]);
+            continue;
+        }
+        if name == "tick" || name == "run" {
+            for _ in 0..asked(line).unwrap_or(1) {
                 let answer = answers.next().expect("an answer to each tick");
-                if let Some(refusal) = answer.strip_prefix("refused ") {
-                    wave.comment(number, &format!("refused {refusal}"));
+                if answer.starts_with("refused ") {
+                    wave.comment(number, &answer);
                     break;
                 }
                 wave.tick(wires(&answer));
@@ -154,16 +166,13 @@ fn main() {
             continue;
         }
         let answer = answers.next().expect("an answer to each command");
-        if let Some(fault) = answer.strip_prefix("error ") {
-            let (_, reason) = fault.split_once(' ').unwrap();
-            wave.comment(number, reason);
-        } else if answer.starts_with("refused ") {
+        if answer.starts_with("refused ") {
             wave.comment(number, &answer);
         }
-        // The bytes of a picture or a store follow their `ok`.
+        // The bytes of a picture or a store follow their `ok`, 32 a line.
         if answer == "ok" && (name == "picture" || name == "store") {
-            while answers.peek().is_some_and(|a| a.len() <= 64 && a.len() % 2 == 0 && a.bytes().all(|b| b.is_ascii_digit() || (b'A'..=b'F').contains(&b)) && !a.is_empty()) {
-                answers.next();
+            for _ in 0..asked(line).unwrap().div_ceil(32) {
+                answers.next().expect("the bytes");
             }
         }
     }
