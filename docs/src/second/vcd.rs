@@ -12,7 +12,7 @@
 // time comes after the last tick; one-bit wires sync, vsync, inactive, blank,
 // request, transfer and 24-bit ones address, pixel0 to pixel3; after the first tick
 // only changes are written; refused commands and errors are comments, which name
-// their line; no date. Scripts given here have no line over 1,000 bytes.
+// their line; no date.
 
 use std::env;
 use std::fs;
@@ -147,13 +147,13 @@ fn main() {
     let mut wave = Wave { out: io::BufWriter::new(io::stdout().lock()), ticks: 0, last: Vec::new() };
     head(&mut wave.out);
     for (number, line) in lines_of(&words[0]).iter().enumerate().map(|(i, l)| (i + 1, l)) {
-        let Some(name) = command(line) else { continue };
         // An error names its line: a command may answer nothing, as `tick 0` does.
         let fault = format!("error {number} ");
         if let Some(answer) = answers.next_if(|a| a.starts_with(&fault)) {
             wave.comment(number, &answer[fault.len()..]);
             continue;
         }
+        let Some(name) = command(line) else { continue };
         if name == "tick" || name == "run" {
             for _ in 0..asked(line).unwrap_or(1) {
                 let answer = answers.next().expect("an answer to each tick");
