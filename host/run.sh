@@ -4,10 +4,7 @@
 set -eu
 cd "$(dirname "$0")/.."
 
-kit=$(cd "$(dirname "$(rt doc)")/.." && pwd -P)
-own=$kit/on/$(uname -m)
-tools=$own/toolchain
-out=target/host
+. host/tools.sh
 
 mkdir -p "$out"
 for archive in station lent; do
@@ -19,14 +16,6 @@ build() { # NAME ARCHIVE
         -isystem host/libc -I include -c "host/$1.c" -o "$out/$1.o"
     "$own/bin/rattle-link" --target x86_64-unknown-linux-gnu --toolchain "$tools" \
         -o "$out/$1" "$out/$1.o" "target/staticlib/lib$2.a" 2>"$out/$1.link" || { cat "$out/$1.link" >&2; exit 1; }
-}
-
-emulator=$tools/bin/qemu-x86_64
-[ -x "$emulator" ] || emulator=''
-run() { # NAME WORDS..
-    name=$1
-    shift
-    ${emulator:+"$emulator"} "$tools/lib/ld-linux-x86-64.so.2" --library-path "$tools/lib" "$out/$name" "$@"
 }
 
 # What the release program writes and how it ends, held to what is right.
@@ -66,4 +55,11 @@ is 1 'refused 33' field 0x21 <"$out/long"
 is 1 'refused 30' field 0x21 <"$out/empty"
 is 2 'release: not a tag: 4294967296' field 4294967296 <"$out/sheet"
 is 2 'release: not a tag: -1' field -1 <"$out/sheet"
+# The test picture's nine bytes, as examples/test.nine has them, and the same with any one of them changed.
+nine=$(tr -d '# \n' <examples/test.nine)
+is 0 'key released' key "$nine" "$nine" <"$out/empty"
+for place in 0 1 2 3 4 5 6 7 8; do
+    other=$(printf '%s\n' "$nine" | awk -v p="$place" '{ d = substr($0, 2 * p + 2, 1); print substr($0, 1, 2 * p + 1) (d == "0" ? "1" : "0") substr($0, 2 * p + 3) }')
+    is 1 'key kept: the checksums differ' key "$other" "$nine" <"$out/empty"
+done
 echo 'release: every line and status as it should be'
