@@ -1,6 +1,4 @@
 // A session over a script (console.md), in one of three forms: answers, a waveform of the ticks, or the last picture.
-mod asks;
-
 ghost use Prim.Native.Nat.{_≤_};
 ghost use Rattle.generator.specs.Sound.{Sound};
 use machine::Machine;

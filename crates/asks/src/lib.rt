@@ -1,4 +1,6 @@
 // What commands that only ask say: in answers what they found, elsewhere nothing unless they are refused.
+ghost use mathlib.Core.Path.{_≡_};
+ghost use lib.ListN.{length};
 ghost use Rattle.generator.specs.Sound.{Sound};
 use machine::Machine;
 use report::Page;
@@ -25,7 +27,9 @@ fn rows(p: Page, out: &mut [u8], bytes: &[u8]) -> Page {
 }
 
 // Bytes that were asked for, or a refusal.
-pub fn shown(p: Page, out: &mut [u8], line: u64, refusal: u32, bytes: &[u8]) -> Page {
+pub fn shown(p: Page, out: &mut [u8], line: u64, refusal: u32, bytes: &[u8]) -> Page
+    ensures room { λ _. ⌜ length (now (out .exit)) ≡ length (now (out .entry)) ⌝ }
+{
     let told = report::verdict(p, out, line, refusal);
     if is_brief(p, refusal) {
         return told;
@@ -125,6 +129,7 @@ fn given(p: Page, c: Command, out: &mut [u8], line: u64) -> Page {
 // A command that only asks.
 pub fn asked(p: Page, c: Command, m: Machine, out: &mut [u8], line: u64) -> Page
     requires { ⌜ Sound (m .regs) (m .generator) ⌝ }
+    ensures room { λ _. ⌜ length (now (out .exit)) ≡ length (now (out .entry)) ⌝ }
 {
     let left = c.left;
     let values = left.values;

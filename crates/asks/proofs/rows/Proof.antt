@@ -1,11 +1,11 @@
--- `session::asks::rows` is safe and ends: each turn leaves fewer bytes.
+-- `asks::rows` is safe and ends: each turn leaves fewer bytes.
 use Prim.Native.Nat.{_≤_, _-_}
 use mathlib.Core.Path.{_≡_, refl}
 use lib.ListN.{length}
 use native.Mathlib.Omega.{arith}
 use borrow.Author.Needs.{needs}
-use Rattle.session.proofs.asks.rows.Statement.{statement}
-use Rattle.session.proofs.asks.rows.Tie as tie
+use Rattle.asks.proofs.rows.Statement.{statement}
+use Rattle.asks.proofs.rows.Tie as tie
 
 abbrev Inv-loop : tie.InvT-loop
 Inv-loop out₀ bytes page₀ from₀ out page from = (from ≤ length bytes) × (length out ≡ length out₀)
