@@ -414,7 +414,8 @@ fn opened(form: u32, out: &mut [u8]) -> Page {
     page
 }
 
-// Reads a script on standard input and writes it in a form. Answers the ticks that were shown.
+// Reads a script on standard input and writes it in a form. Answers the ticks that were shown. No contract can speak of what is read and
+// written, so the clause bounds a number that is bounded anyway: what it promises is that every script comes to an end.
 pub fn session(form: u32) -> u64
     ensures ticks { λ r. ⌜ r ≤ 0xFFFFFFFFFFFFFFFF ⌝ }
 {
