@@ -2,10 +2,10 @@
 ghost use mathlib.Core.Path.{_≡_};
 ghost use lib.ListN.{length};
 ghost use Rattle.generator.specs.Sound.{Sound};
+use command::Command;
 use machine::Machine;
 use report::Page;
 use says::ANSWERS;
-use script::command::Command;
 
 // There is nothing to say but a verdict.
 fn is_brief(p: Page, refusal: u32) -> bool {
@@ -46,7 +46,7 @@ fn read(p: Page, m: Machine, out: &mut [u8], line: u64, address: u32) -> Page
         return report::verdict(p, out, line, answer.refusal);
     }
     let value = text::put_hex(out, p.waiting, answer.value);
-    let end = text::put(out, value, b"\n");
+    let end = room::put(out, value, b"\n");
     report::turn(p, end)
 }
 
@@ -62,7 +62,7 @@ fn nine(p: Page, m: Machine, out: &mut [u8], line: u64) -> Page
     let low = text::put_hex(out, p.waiting, words[0]);
     let middle = says::ticks::put_colour(out, low, words[1]);
     let high = says::ticks::put_colour(out, middle, words[2]);
-    let end = text::put(out, high, b"\n");
+    let end = room::put(out, high, b"\n");
     report::turn(p, end)
 }
 
@@ -73,7 +73,7 @@ fn sheet(p: Page, c: Command, out: &mut [u8], line: u64) -> Page {
     if is_brief(p, sheet.refusal) {
         return report::verdict(p, out, line, sheet.refusal);
     }
-    let ok = text::put(out, p.waiting, b"ok");
+    let ok = room::put(out, p.waiting, b"ok");
     let end = text::put_values(out, ok, &values);
     report::turn(p, end)
 }
@@ -90,7 +90,7 @@ fn field(p: Page, c: Command, out: &mut [u8], line: u64) -> Page {
 
 // `store ROOM VALUE x14`.
 fn store(p: Page, c: Command, out: &mut [u8], line: u64) -> Page {
-    let stored = answers::stored_of(c);
+    let stored = store::stored_of(c);
     let bytes = stored.bytes;
     let room = stored.room;
     shown(
@@ -108,19 +108,19 @@ fn compare(p: Page, c: Command, out: &mut [u8], line: u64) -> Page {
     if is_brief(p, comparison.refusal) {
         return report::verdict(p, out, line, comparison.refusal);
     }
-    let end = text::put_either(out, p.waiting, comparison.equal, b"same\n", b"different\n");
+    let end = room::put_either(out, p.waiting, comparison.equal, b"same\n", b"different\n");
     report::turn(p, end)
 }
 
 // A command on sheets or checksums given.
 fn given(p: Page, c: Command, out: &mut [u8], line: u64) -> Page {
-    if c.name == script::command::SHEET {
+    if c.name == command::SHEET {
         return sheet(p, c, out, line);
     }
-    if c.name == script::command::FIELD {
+    if c.name == command::FIELD {
         return field(p, c, out, line);
     }
-    if c.name == script::command::STORE {
+    if c.name == command::STORE {
         return store(p, c, out, line);
     }
     compare(p, c, out, line)
@@ -133,10 +133,10 @@ pub fn asked(p: Page, c: Command, m: Machine, out: &mut [u8], line: u64) -> Page
 {
     let left = c.left;
     let values = left.values;
-    if c.name == script::command::READ {
+    if c.name == command::READ {
         return read(p, m, out, line, values[0]);
     }
-    if c.name == script::command::NINE {
+    if c.name == command::NINE {
         return nine(p, m, out, line);
     }
     given(p, c, out, line)

@@ -47,7 +47,7 @@ fn poke(out: &mut [u8], waiting: usize, part: &[u8], at: u32) -> usize {
     }
     let line = settings::poke_text(at, part);
     let room = spaced(out, waiting);
-    text::put(out, room, &line)
+    room::put(out, room, &line)
 }
 
 // The picture memory, 64 bytes a line.
@@ -73,46 +73,46 @@ fn script_for(chart: Chart, out: &mut [u8]) {
     audiogram::draw(chart, &mut memory);
     let table = settings::settings_text();
     let start = settings::start_text();
-    let set = text::put(out, 0, &table);
-    let size = text::put(out, set, b"memory 76800\n");
+    let set = room::put(out, 0, &table);
+    let size = room::put(out, set, b"memory 76800\n");
     let poked = pokes(out, size, &memory);
     let room = spaced(out, poked);
-    let started = text::put(out, room, &start);
-    let end = text::put(out, started, b"run 105000\npicture 921600\nnine\n");
+    let started = room::put(out, room, &start);
+    let end = room::put(out, started, b"run 105000\npicture 921600\nnine\n");
     written(out, end);
 }
 
 // What is wrong with a line.
 fn phrase(out: &mut [u8], at: usize, fault: u32) -> usize {
     if fault == patient::UNKNOWN_FREQUENCY {
-        return text::put(out, at, b"unknown frequency\n");
+        return room::put(out, at, b"unknown frequency\n");
     }
     if fault == patient::GIVEN_TWICE {
-        return text::put(out, at, b"frequency given twice\n");
+        return room::put(out, at, b"frequency given twice\n");
     }
     if fault == patient::MISSING_EAR {
-        return text::put(out, at, b"missing ear\n");
+        return room::put(out, at, b"missing ear\n");
     }
     if fault == patient::TOO_MANY_WORDS {
-        return text::put(out, at, b"too many words\n");
+        return room::put(out, at, b"too many words\n");
     }
     if fault == patient::NOT_A_LEVEL {
-        return text::put(out, at, b"level not a number\n");
+        return room::put(out, at, b"level not a number\n");
     }
     if fault == patient::OUT_OF_RANGE {
-        return text::put(out, at, b"level out of range, -10 to 120\n");
+        return room::put(out, at, b"level out of range, -10 to 120\n");
     }
     if fault == patient::NOT_A_STEP {
-        return text::put(out, at, b"level not a step of 5\n");
+        return room::put(out, at, b"level not a step of 5\n");
     }
-    text::put(out, at, b"line too long\n")
+    room::put(out, at, b"line too long\n")
 }
 
 // `line N: what is wrong`, on standard error.
 fn complain(lines: u64, fault: u32, out: &mut [u8]) {
-    let word = text::put(out, 0, b"line ");
+    let word = room::put(out, 0, b"line ");
     let number = text::put_decimal(out, word, lines);
-    let colon = text::put(out, number, b": ");
+    let colon = room::put(out, number, b": ");
     let end = phrase(out, colon, fault);
     io::write_all(2, text::bytes::lent(out, end));
 }
@@ -127,7 +127,7 @@ fn taken(d: Desk, line: &[u8]) -> Desk {
     let next = reading.chart;
     Desk {
         chart: next,
-        lines: script::lines::one_more(d.lines),
+        lines: input::one_more(d.lines),
         fault: reading.fault,
         held: 0,
         more: true,
@@ -147,11 +147,11 @@ fn pieced(d: Desk, piece: &[u8], line: &mut [u8]) -> Desk {
     let mut count = d.held;
     let mut at: usize = 0;
     while at < piece.len() {
-        let held = script::lines::take_line(piece, at, line, count);
+        let held = input::take_line(piece, at, line, count);
         at = held.at;
         count = held.length;
         if held.ended {
-            desk = taken(desk, script::lines::line_of(line, count, true));
+            desk = taken(desk, input::line_of(line, count, true));
             count = 0;
         }
     }
@@ -173,7 +173,7 @@ fn finished(d: Desk, line: &[u8], out: &mut [u8]) {
     let held = d.held;
     let mut last = d;
     if 0 < held {
-        last = taken(d, script::lines::line_of(line, held, false));
+        last = taken(d, input::line_of(line, held, false));
     }
     if last.fault != 0 {
         complain(last.lines, last.fault, out);

@@ -9,9 +9,9 @@ use borrow.Author.Tests.{lt-ltb, le-ltb, eq-eqb, ne-eqb, ltb-false}
 use lib.Dec.{ltb, eqb}
 use lib.ListN.{length, getD, take, drop, set, length-drop, List·getD-eq-default}
 use lib.Seq.{take-all}
-use Rattle.script.specs.Words.{wordAt}
-use Rattle.script.specs.Numbers.{numberOf}
-use Rattle.script.specs.declared.number.Number.{Number}
+use Rattle.words.specs.Words.{wordAt}
+use Rattle.number.specs.Numbers.{numberOf}
+use Rattle.number.specs.declared.Number.{Number}
 use Rattle.audiogram.specs.declared.Chart.{Chart}
 use Rattle.patient.specs.Patient.{notALevel, outOfRange, notMeasured, notAStep, tooLong, plainNumber, dash, wrongNumber, stepped, levelAbove, levelBelow, levelOf, frequencies, foundUpTo, placedFault, placed, wordsRead, silent, lineRead}
 use Rattle.patient.specs.declared.Level.{Level}

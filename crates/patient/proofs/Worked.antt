@@ -3,8 +3,8 @@ use Prim.Native.Nat.{ℕ}
 use mathlib.Core.Path.{_≡_, refl}
 use mathlib.Core.List.{List, [], _∷_, map}
 use lib.ListN.{getD, set}
-use Rattle.script.specs.Words
-use Rattle.script.specs.Numbers
+use Rattle.words.specs.Words
+use Rattle.number.specs.Numbers
 use Rattle.patient.specs.Patient
 use Rattle.patient.specs.Examples.{Row, rows, begun, after}
 

@@ -4,9 +4,9 @@ use mathlib.Core.Bool.{Bool, not, cond, _&&_, _||_}
 use mathlib.Core.List.{List, [], _∷_}
 use lib.Dec.{ltb, leb, eqb}
 use lib.ListN.{length, getD, drop, set, replicate}
-use Rattle.script.specs.Words.{wordAt, wordCount}
-use Rattle.script.specs.Numbers.{numberOf}
-use Rattle.script.specs.declared.number.Number.{Number}
+use Rattle.words.specs.Words.{wordAt, wordCount}
+use Rattle.number.specs.Numbers.{numberOf}
+use Rattle.number.specs.declared.Number.{Number}
 use Rattle.audiogram.specs.declared.Chart.{Chart}
 use Rattle.patient.specs.declared.Level.{Level}
 use Rattle.patient.specs.declared.Reading.{Reading}

@@ -2,11 +2,11 @@
 ghost use mathlib.Core.Path.{_≡_};
 ghost use Prim.Native.Nat.{_≤_};
 ghost use lib.ListN.{getD, length, drop, set};
-ghost use Rattle.script.specs.Words.{front, skip, past, wordAt};
+ghost use Rattle.words.specs.Words.{front, skip, past, wordAt};
 ghost use Rattle.patient.specs.Patient.{plainNumber, dash, wrongNumber, stepped, levelAbove, levelBelow, levelOf, frequencyOf};
 ghost use Rattle.patient.specs.Patient.{faultOf, placed, wordsRead, silent, lineRead, fresh};
 use audiogram::Chart;
-use script::number::Number;
+use number::Number;
 
 // In Hz, left to right.
 const FREQUENCIES: [u32; 11] = [125, 250, 500, 750, 1000, 1500, 2000, 3000, 4000, 6000, 8000];
@@ -79,7 +79,7 @@ fn plain_number(word: &[u8]) -> Number
     if hexadecimal {
         return Number { fault: 4, value: 0 };
     }
-    script::number::number_of(word)
+    number::number_of(word)
 }
 
 // A level is not measured.
@@ -190,7 +190,7 @@ fn ear_after(line: &[u8], at: usize) -> Ear
     ensures level { λ r. ⌜ r .level ≡ levelOf (front (skip (drop at (now (line .entry))))) ⌝ }
     ensures left { λ r. ⌜ drop (r .to) (now (line .entry)) ≡ past (skip (drop at (now (line .entry)))) ⌝ }
 {
-    let word = script::words::word_after(line, at);
+    let word = words::word_after(line, at);
     let from = word.from;
     let to = word.to;
     let level = level_of(&line[from..to]);
@@ -250,13 +250,13 @@ fn placed(chart: Chart, k: u32, words: usize, right: Level, left: Level) -> Read
 fn words_read(chart: Chart, line: &[u8]) -> Reading
     ensures reading { λ r. ⌜ r ≡ wordsRead chart (now (line .entry)) ⌝ }
 {
-    let word = script::words::word_after(line, 0);
+    let word = words::word_after(line, 0);
     let from = word.from;
     let to = word.to;
     let k = frequency_of(plain_number(&line[from..to]));
     let right = ear_after(line, to);
     let left = ear_after(line, right.to);
-    let words = script::words::count_words(line);
+    let words = words::count_words(line);
     let first = right.level;
     let second = left.level;
     placed(chart, k, words, first, second)
@@ -274,7 +274,7 @@ fn is_silent(word: &[u8]) -> bool
 fn is_remark(line: &[u8]) -> bool
     ensures test { λ r. ⌜ r ≡ silent (wordAt 0 (now (line .entry))) ⌝ }
 {
-    let word = script::words::word_after(line, 0);
+    let word = words::word_after(line, 0);
     let from = word.from;
     let to = word.to;
     is_silent(&line[from..to])

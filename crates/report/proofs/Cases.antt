@@ -5,7 +5,7 @@ use mathlib.Core.Path.{_≡_, refl}
 use lib.Dec.{eqb}
 use borrow.Author.Tests.{eq-eqb, ne-eqb}
 use Rattle.text.specs.Ascii.{ascii}
-use Rattle.text.specs.Room.{putTexts, putEnds}
+use Rattle.room.specs.Room.{putTexts, putEnds}
 use Rattle.says.specs.Notes.{refusedTexts}
 use Rattle.says.specs.Answers.{lineTexts}
 use Rattle.wave.specs.Changes.{tickTexts}

@@ -6,7 +6,7 @@ use lib.Dec.{ltb, eqb}
 use Rattle.generator.specs.Tick.{silent}
 use Rattle.generator.specs.declared.Signals.{Signals}
 use Rattle.text.specs.Ascii.{ascii}
-use Rattle.text.specs.Room.{decimalText}
+use Rattle.text.specs.Decimal.{decimalText}
 use Rattle.text.specs.Lines.{lineEnd, countTexts}
 use Rattle.says.specs.Notes.{refusedTexts}
 use Rattle.says.specs.Answers.{lineTexts}

@@ -2,7 +2,7 @@
 ghost use mathlib.Core.Path.{_≡_};
 ghost use mathlib.Core.Bool.{cond};
 ghost use lib.Dec.{ltb};
-ghost use Rattle.text.specs.Room.{putTexts, putEnds};
+ghost use Rattle.room.specs.Room.{putTexts, putEnds};
 ghost use Rattle.generator.specs.Tick.{silent};
 ghost use Rattle.says.specs.Notes.{refusedTexts, faultTexts};
 ghost use Rattle.report.specs.Pages.{blankPage, turned, counted, verdictTexts, stepTexts, ppmTexts};
@@ -66,7 +66,7 @@ pub fn turn(p: Page, waiting: usize) -> Page
 fn count(p: Page, waiting: usize, s: Signals) -> Page
     ensures page { λ r. ⌜ r ≡ counted p waiting s ⌝ }
 {
-    let ticks = script::lines::one_more(p.ticks);
+    let ticks = input::one_more(p.ticks);
     Page {
         form: p.form,
         waiting,
@@ -127,7 +127,7 @@ pub fn verdict(p: Page, out: &mut [u8], line: u64, refusal: u32) -> Page
         return refuse(p, out, line, refusal);
     }
     if p.form == ANSWERS {
-        let end = text::put(out, p.waiting, b"ok\n");
+        let end = room::put(out, p.waiting, b"ok\n");
         return turn(p, end);
     }
     turn(p, p.waiting)
@@ -155,9 +155,9 @@ pub fn put_ppm(room: &mut [u8], at: usize, width: u64, height: u64) -> usize
     ensures place { λ r. ⌜ r ≡ putEnds (now (room .entry)) at (ppmTexts width height) ⌝ }
     ensures bytes { λ _. ⌜ now (room .exit) ≡ putTexts (now (room .entry)) at (ppmTexts width height) ⌝ }
 {
-    let kind = text::put(room, at, b"P6\n");
+    let kind = room::put(room, at, b"P6\n");
     let wide = text::put_decimal(room, kind, width);
-    let parted = text::put(room, wide, b" ");
+    let parted = room::put(room, wide, b" ");
     let high = text::put_decimal(room, parted, height);
-    text::put(room, high, b"\n255\n")
+    room::put(room, high, b"\n255\n")
 }

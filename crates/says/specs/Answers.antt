@@ -5,7 +5,7 @@ use mathlib.Core.List.{List, [], _∷_, _++_}
 use lib.ListN.{getD}
 use Rattle.generator.specs.declared.Signals.{Signals}
 use Rattle.text.specs.Ascii.{ascii}
-use Rattle.text.specs.Room.{hexText}
+use Rattle.hex.specs.Hex.{hexText}
 use Rattle.text.specs.Lines.{lineEnd}
 
 -- a wire's name and its level

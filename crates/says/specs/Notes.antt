@@ -3,9 +3,9 @@ use Prim.Native.Nat.{ℕ}
 use mathlib.Core.Bool.{cond}
 use mathlib.Core.List.{List, [], _∷_, _++_}
 use lib.Dec.{eqb}
-use Rattle.script.specs.Faults.{unknownCommand, tooFewWords, tooManyWords, notANumber, numberTooLarge, beyondTheMemory, tooLarge}
+use Rattle.number.specs.Faults.{unknownCommand, tooFewWords, tooManyWords, notANumber, numberTooLarge, beyondTheMemory, tooLarge}
 use Rattle.text.specs.Ascii.{ascii}
-use Rattle.text.specs.Room.{decimalText}
+use Rattle.text.specs.Decimal.{decimalText}
 use Rattle.text.specs.Lines.{lineEnd, countTexts}
 
 -- a fault's reason

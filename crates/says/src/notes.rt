@@ -2,15 +2,15 @@
 ghost use mathlib.Core.Path.{_≡_};
 ghost use mathlib.Core.List.{[], _∷_};
 ghost use lib.ListN.{length};
-ghost use Rattle.text.specs.Room.{putText, putEnd, putTexts, putEnds};
+ghost use Rattle.room.specs.Room.{putText, putEnd, putTexts, putEnds};
 ghost use Rattle.says.specs.Notes.{laterReason, reasonText, openText, closeText, noteTexts};
 ghost use Rattle.says.specs.Notes.{refusalTexts, refusedTexts, errorTexts, faultTexts};
 use crate::ANSWERS;
 use crate::WAVE;
-use text::put;
+use room::put;
+use room::put_either;
 use text::put_count;
 use text::put_decimal;
-use text::put_either;
 
 // The later reasons.
 fn put_later_reason(room: &mut [u8], at: usize, fault: u32) -> usize

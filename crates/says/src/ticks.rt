@@ -1,12 +1,12 @@
 // A tick's line (console.md).
 ghost use mathlib.Core.Path.{_≡_};
 ghost use lib.ListN.{length};
-ghost use Rattle.text.specs.Room.{putTexts, putEnds};
+ghost use Rattle.room.specs.Room.{putTexts, putEnds};
 ghost use Rattle.says.specs.Answers.{levelTexts, addressTexts, colourTexts, dotsTexts, lineTexts};
 use generator::Signals;
-use text::hex_text;
-use text::put;
-use text::put_either;
+use hex::hex_text;
+use room::put;
+use room::put_either;
 use text::put_hex;
 
 // A wire's name and its level.

@@ -1,5 +1,2 @@
--- The rules of the bench script.
-pub mod Faults
-pub mod Words
-pub mod Numbers
-pub mod Commands
+-- The lines of the bench script.
+pub mod Script

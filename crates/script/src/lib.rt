@@ -1,5 +1,25 @@
-// The bench script (console.md): its lines, words, numbers and commands.
-pub mod command;
-pub mod lines;
-pub mod number;
-pub mod words;
+// The lines of a bench script (console.md): those that answer nothing, and the command of any other.
+ghost use mathlib.Core.Path.{_≡_};
+ghost use Rattle.script.specs.Script.{skipped, lineCommand};
+use command::Command;
+use command::UNKNOWN;
+
+// A line that answers nothing: empty, or a remark.
+pub fn is_skipped(line: &[u8]) -> bool
+    ensures test { λ r. ⌜ r ≡ skipped (now (line .entry)) ⌝ }
+{
+    if line.len() == 0 {
+        return true;
+    }
+    (line.len() <= 1000) & (line[0] == b';')
+}
+
+// The command of a line of any length: one of more than 1,000 bytes is too long, whatever it holds.
+pub fn line_command(line: &[u8], memory: u32) -> Command
+    ensures command { λ r. ⌜ r ≡ lineCommand (now (line .entry)) memory ⌝ }
+{
+    if 1000 < line.len() {
+        return command::faulty(UNKNOWN, 8);
+    }
+    command::command_of(line, memory)
+}

@@ -1,12 +1,12 @@
 // A session over a script (console.md), in one of three forms: answers, a waveform of the ticks, or the last picture.
 ghost use Prim.Native.Nat.{_≤_};
 ghost use Rattle.generator.specs.Sound.{Sound};
+use command::Command;
 use machine::Machine;
 use report::Page;
 use says::ANSWERS;
 use says::PICTURE;
 use says::WAVE;
-use script::command::Command;
 
 // The machine, the bytes of memory lent, the lines read, and what has been said.
 struct Desk {
@@ -125,7 +125,7 @@ fn timed(d: Desk, c: Command, memory: &[u8], out: &mut [u8]) -> Desk
     let page = d.page;
     let count = base::first(left.count == 0, 1, values[0]);
     let lent = text::bytes::lent(memory, d.memory as usize);
-    let line_each = (page.form == ANSWERS) & (c.name == script::command::TICK);
+    let line_each = (page.form == ANSWERS) & (c.name == command::TICK);
     if (page.form == WAVE) | line_each {
         return ticks(d, lent, out, count);
     }
@@ -202,7 +202,7 @@ fn keep(d: Desk, c: Command, memory: &mut [u8], out: &mut [u8]) -> Desk
 {
     let machine = d.machine;
     let before = d.page;
-    let lent = answers::kept(c, memory, d.memory);
+    let lent = keep::kept(c, memory, d.memory);
     let page = report::verdict(before, out, d.lines, 0);
     Desk {
         machine,
@@ -219,7 +219,7 @@ fn acted(d: Desk, c: Command, memory: &mut [u8], picture: &mut [u8], out: &mut [
 {
     let left = c.left;
     let values = left.values;
-    let kind = script::command::kind_of(c.name);
+    let kind = command::kind_of(c.name);
     if kind == 0 {
         return write(d, out, values[0], values[1]);
     }
@@ -246,7 +246,7 @@ fn next_line(d: Desk, out: &[u8]) -> Desk
     let machine = d.machine;
     let before = d.page;
     let page = report::space(before, out);
-    let lines = script::lines::one_more(d.lines);
+    let lines = input::one_more(d.lines);
     Desk {
         machine,
         memory: d.memory,
@@ -271,10 +271,10 @@ fn answered(d: Desk, line: &[u8], memory: &mut [u8], picture: &mut [u8], out: &m
     ensures sound { λ r. ⌜ Sound (r .machine .regs) (r .machine .generator) ⌝ }
 {
     let next = next_line(d, out);
-    if script::lines::is_skipped(line) {
+    if script::is_skipped(line) {
         return next;
     }
-    let c = script::command::line_command(line, next.memory);
+    let c = script::line_command(line, next.memory);
     if c.fault == 0 {
         return acted(next, c, memory, picture, out);
     }
@@ -298,13 +298,13 @@ fn pieced(
     let mut count = held;
     let mut at: usize = 0;
     while at < piece.len() {
-        let taken = script::lines::take_line(piece, at, line, count);
+        let taken = input::take_line(piece, at, line, count);
         at = taken.at;
         count = taken.length;
         if taken.ended {
             desk = answered(
                 desk,
-                script::lines::line_of(line, count, true),
+                input::line_of(line, count, true),
                 memory,
                 picture,
                 out,
@@ -350,7 +350,7 @@ fn finished(left: Left, line: &[u8], memory: &mut [u8], picture: &mut [u8], out:
     }
     let last = answered(
         desk,
-        script::lines::line_of(line, held, false),
+        input::line_of(line, held, false),
         memory,
         picture,
         out,

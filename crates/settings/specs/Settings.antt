@@ -5,7 +5,7 @@ use mathlib.Core.List.{List, [], _∷_, _++_}
 use lib.Dec.{ltb}
 use lib.ListN.{getD}
 use Rattle.base.specs.Count.{run}
-use Rattle.text.specs.Room.{hexText, byteText}
+use Rattle.hex.specs.Hex.{hexText, byteText}
 
 -- an address and its value, six digits
 abbrev pub at : ℕ → ℕ → ℕ

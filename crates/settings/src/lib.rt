@@ -36,8 +36,8 @@ const START: u32 = 0x900001;
 fn row_text(address: u32, value: u32) -> [u8; 22]
     ensures text { λ r. ⌜ r ≡ rowText address value ⌝ }
 {
-    let a = text::hex_text(address);
-    let v = text::hex_text(value);
+    let a = hex::hex_text(address);
+    let v = hex::hex_text(value);
     [
         b'w',
         b'r',
@@ -111,7 +111,7 @@ fn stored(memory: &[u8], k: usize) -> u8
 fn poke_head(at: u32) -> [u8; 12]
     ensures text { λ r. ⌜ r ≡ pokeHead at ⌝ }
 {
-    let a = text::hex_text(at);
+    let a = hex::hex_text(at);
     [
         b'p',
         b'o',
@@ -132,7 +132,7 @@ fn poke_head(at: u32) -> [u8; 12]
 fn byte_word(byte: u8) -> [u8; 4]
     ensures text { λ r. ⌜ r ≡ byteWord byte ⌝ }
 {
-    let digits = text::byte_text(byte);
+    let digits = hex::byte_text(byte);
     [b' ', b'#', digits[0], digits[1]]
 }
 

@@ -8,7 +8,7 @@ use native.Mathlib.Omega.{arith}
 use lib.Dec.{ltb}
 use borrow.Author.Tests.{lt-ltb, le-ltb, ltb-true, ltb-false}
 use Rattle.io.specs.Digits.{digits, Fewest}
-use Rattle.text.specs.Room.{places, decimalText}
+use Rattle.text.specs.Decimal.{places, decimalText}
 
 places-end : (least value : ℕ) → places least 0 value ≡ least
 unfolding places

@@ -1,3 +1,3 @@
--- Laws of bytes put into a room, and of numbers as text.
-pub mod Laying
+-- Laws of numbers as text, and of rows.
 mod Decimal
+mod Rows

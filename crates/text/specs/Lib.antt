@@ -1,4 +1,4 @@
 -- Text that programs write.
 pub mod Ascii
-pub mod Room
+pub mod Decimal
 pub mod Lines

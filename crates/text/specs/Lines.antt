@@ -1,7 +1,8 @@
 -- Lines that programs write (console.md), each as its texts in order. Assumes nothing.
 use Prim.Native.Nat.{ℕ}
 use mathlib.Core.List.{List, [], _∷_}
-use Rattle.text.specs.Room.{byteText, decimalText}
+use Rattle.hex.specs.Hex.{byteText}
+use Rattle.text.specs.Decimal.{decimalText}
 
 -- a line's end
 abbrev pub lineEnd : List ℕ

@@ -1,79 +1,16 @@
-// Bytes put into a lent room, and numbers as text.
+// Numbers and rows as text, put into a lent room.
 ghost use mathlib.Core.Path.{_≡_};
-ghost use mathlib.Core.Bool.{cond};
 ghost use lib.ListN.{length};
-ghost use Rattle.text.specs.Room.{hexText, byteText, decimalText, putText, putEnd, putTexts, putEnds, Inside};
+ghost use Rattle.hex.specs.Hex.{hexText};
+ghost use Rattle.room.specs.Room.{putText, putEnd, putTexts, putEnds, Inside};
+ghost use Rattle.text.specs.Decimal.{decimalText};
 ghost use Rattle.text.specs.Lines.{countTexts, rowTexts, valuesTexts};
-ghost use Rattle.text.specs.Room.{glyph as Room·glyph};
 
 pub mod bytes;
 
-// A text put into a room at a place, and the place past it. Where it does not fit nothing is put.
-pub fn put(room: &mut [u8], at: usize, text: &[u8]) -> usize
-    ensures place { λ r. ⌜ r ≡ putEnd (now (room .entry)) at (length (now (text .entry))) ⌝ }
-    ensures bytes { λ _. ⌜ now (room .exit) ≡ putText (now (room .entry)) at (now (text .entry)) ⌝ }
-    ensures within { λ r. ⌜ Inside (now (room .entry)) (now (room .exit)) r ⌝ }
-{
-    let end = room.len();
-    if end < at {
-        return end;
-    }
-    let count = text.len();
-    if end - at < count {
-        return at;
-    }
-    let mut i: usize = 0;
-    while i < count {
-        room[at + i] = text[i];
-        i += 1;
-    }
-    at + count
-}
-
-// One text where a test holds, and the other where not.
-pub fn put_either(room: &mut [u8], at: usize, test: bool, one: &[u8], other: &[u8]) -> usize
-    ensures place { λ r. ⌜ r ≡ putEnd (now (room .entry)) at (length (cond test (now (one .entry)) (now (other .entry)))) ⌝ }
-    ensures bytes { λ _. ⌜ now (room .exit) ≡ putText (now (room .entry)) at (cond test (now (one .entry)) (now (other .entry))) ⌝ }
-{
-    if test {
-        return put(room, at, one);
-    }
-    put(room, at, other)
-}
-
-// A hexadecimal digit, in capitals.
-fn glyph(digit: u32) -> u8
-    ensures byte { λ r. ⌜ r ≡ Room·glyph digit ⌝ }
-{
-    let k = digit % 16;
-    if k < 10 {
-        return (48 + k) as u8;
-    }
-    (55 + k) as u8
-}
-
-// `#` and six digits.
-pub fn hex_text(value: u32) -> [u8; 7]
-    ensures text { λ r. ⌜ r ≡ hexText value ⌝ }
-{
-    [
-        b'#',
-        glyph(value / 0x100000),
-        glyph(value / 0x10000),
-        glyph(value / 0x1000),
-        glyph(value / 0x100),
-        glyph(value / 0x10),
-        glyph(value),
-    ]
-}
-
-// A byte as two digits.
-pub fn byte_text(byte: u8) -> [u8; 2]
-    ensures text { λ r. ⌜ r ≡ byteText byte ⌝ }
-{
-    let value = base::wide(byte);
-    [glyph(value / 0x10), glyph(value)]
-}
+use hex::byte_text;
+use hex::hex_text;
+use room::put;
 
 // A number as `#00002A`.
 pub fn put_hex(room: &mut [u8], at: usize, value: u32) -> usize

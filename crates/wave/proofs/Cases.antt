@@ -4,7 +4,7 @@ use mathlib.Core.Bool.{Bool, true, false, _||_}
 use mathlib.Core.List.{List, []}
 use mathlib.Core.Path.{_≡_, refl}
 use lib.ListN.{set, replicate}
-use Rattle.text.specs.Room.{laid, putTexts, putEnds}
+use Rattle.room.specs.Room.{laid, putTexts, putEnds}
 use Rattle.wave.specs.Changes.{busText, levelsDiffer, busesDiffer, firstTexts, laterTexts, tickTexts}
 use Rattle.generator.specs.declared.Signals.{Signals}
 

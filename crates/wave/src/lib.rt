@@ -3,7 +3,7 @@ ghost use mathlib.Core.Path.{_≡_};
 ghost use mathlib.Core.Bool.{cond};
 ghost use Prim.Native.Nat.{_+_, _/_, _%_, _^_, _≤_, _<_};
 ghost use lib.ListN.{length};
-ghost use Rattle.text.specs.Room.{putText, putEnd, putTexts, putEnds};
+ghost use Rattle.room.specs.Room.{putText, putEnd, putTexts, putEnds};
 ghost use Rattle.wave.specs.Changes.{levelText, busText, differ, levelChange, busChange, levelTexts, busTexts, levelsDiffer, busesDiffer};
 ghost use Rattle.wave.specs.Changes.{firstTexts, laterTexts, tickTexts, headTexts};
 use generator::Signals;
@@ -60,7 +60,7 @@ fn put_level(room: &mut [u8], at: usize, all: bool, mark: u8, before: bool, leve
 {
     let changed = is_changed(before, level);
     let text = level_text(mark, level);
-    text::put_either(room, at, all | changed, &text, b"")
+    room::put_either(room, at, all | changed, &text, b"")
 }
 
 // A wire of 24 bits, where it is written.
@@ -69,7 +69,7 @@ fn put_bus(room: &mut [u8], at: usize, all: bool, mark: u8, before: u32, value: 
     ensures bytes { λ _. ⌜ now (room .exit) ≡ putText (now (room .entry)) at (busChange all mark before value) ⌝ }
 {
     let text = bus_text(mark, value);
-    text::put_either(room, at, all | (before != value), &text, b"")
+    room::put_either(room, at, all | (before != value), &text, b"")
 }
 
 // The one-bit wires.
@@ -129,10 +129,10 @@ fn put_first(room: &mut [u8], at: usize, k: u64, b: Signals, s: Signals) -> usiz
     ensures bytes { λ _. ⌜ now (room .exit) ≡ putTexts (now (room .entry)) at (firstTexts k b s) ⌝ }
 {
     let time = text::put_count(room, at, b"#", k);
-    let begun = text::put(room, time, b"$dumpvars\n");
+    let begun = room::put(room, time, b"$dumpvars\n");
     let levels = put_levels(room, begun, true, b, s);
     let buses = put_buses(room, levels, true, b, s);
-    text::put(room, buses, b"$end\n")
+    room::put(room, buses, b"$end\n")
 }
 
 // A later tick that changes something.
@@ -166,27 +166,27 @@ pub fn put_head(room: &mut [u8], at: usize) -> usize
     ensures place { λ r. ⌜ r ≡ putEnds (now (room .entry)) at headTexts ⌝ }
     ensures bytes { λ _. ⌜ now (room .exit) ≡ putTexts (now (room .entry)) at headTexts ⌝ }
 {
-    let scope = text::put(
+    let scope = room::put(
         room,
         at,
         b"$version Obblestra trace $end\n$timescale 1 ns $end\n$scope module g364 $end\n",
     );
-    let sync = text::put(
+    let sync = room::put(
         room,
         scope,
         b"$var wire 1 a sync $end\n$var wire 1 b vsync $end\n$var wire 1 c inactive $end\n",
     );
-    let blank = text::put(
+    let blank = room::put(
         room,
         sync,
         b"$var wire 1 d blank $end\n$var wire 1 e request $end\n$var wire 1 f transfer $end\n",
     );
-    let address = text::put(
+    let address = room::put(
         room,
         blank,
         b"$var wire 24 g address $end\n$var wire 24 h pixel0 $end\n$var wire 24 i pixel1 $end\n",
     );
-    text::put(
+    room::put(
         room,
         address,
         b"$var wire 24 j pixel2 $end\n$var wire 24 k pixel3 $end\n$upscope $end\n$enddefinitions $end\n",

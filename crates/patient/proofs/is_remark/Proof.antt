@@ -1,5 +1,5 @@
 -- `patient::is_remark` meets its contract. Assumes nothing.
-use Rattle.script.specs.Words.{wordAt}
+use Rattle.words.specs.Words.{wordAt}
 use borrow.Author.Needs.{needs}
 use Rattle.patient.proofs.is_remark.Statement.{statement}
 use Rattle.patient.proofs.is_remark.Tie as tie

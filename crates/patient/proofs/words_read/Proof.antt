@@ -1,5 +1,5 @@
 -- `patient::words_read` meets its contract. Assumes nothing.
-use Rattle.script.specs.Words.{wordAt}
+use Rattle.words.specs.Words.{wordAt}
 use Rattle.patient.specs.Patient.{wordsRead}
 use borrow.Author.Needs.{needs}
 use Rattle.patient.proofs.words_read.Statement.{statement}

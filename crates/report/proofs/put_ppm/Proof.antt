@@ -1,5 +1,5 @@
 -- `report::put_ppm` meets its contract.
-use Rattle.text.proofs.Laying.{put-joined, put-one}
+use Rattle.room.proofs.Laying.{put-joined, put-one}
 use borrow.Author.Needs.{needs}
 use Rattle.report.proofs.put_ppm.Statement.{statement}
 use Rattle.report.proofs.put_ppm.Tie as tie

@@ -1,5 +1,5 @@
 -- `report::verdict` meets its contract.
-use Rattle.text.proofs.Laying.{put-one}
+use Rattle.room.proofs.Laying.{put-one}
 use Rattle.report.proofs.Cases.{verdict-refused, verdict-good, verdict-none, none-put}
 use Rattle.report.specs.Pages.{turned}
 use mathlib.Core.Path.{ap, _∙_}

@@ -1,5 +1,5 @@
 -- `text::put_count` meets its contract.
-use Rattle.text.specs.Room.{putTexts, putEnds}
+use Rattle.room.specs.Room.{putTexts, putEnds}
 use borrow.Author.Needs.{needs}
 use Rattle.text.proofs.put_count.Statement.{statement}
 use Rattle.text.proofs.put_count.Tie as tie

@@ -3,7 +3,7 @@ use Rattle.text.proofs.Decimal.{decimal-whole}
 use mathlib.Core.Path.{ap, _∙_}
 use native.Mathlib.Omega.{arith}
 use lib.ListN.{length}
-use Rattle.text.specs.Room.{putText, putEnd}
+use Rattle.room.specs.Room.{putText, putEnd}
 use borrow.Author.Needs.{needs}
 use Rattle.text.proofs.put_decimal.Statement.{statement}
 use Rattle.text.proofs.put_decimal.Tie as tie

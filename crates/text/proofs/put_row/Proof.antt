@@ -2,9 +2,10 @@
 use Prim.Native.Nat.{_≤_, _-_}
 use mathlib.Core.Path.{_≡_, refl, sym, ap, _∙_}
 use lib.ListN.{length, drop}
-use Rattle.text.specs.Room.{putTexts, putEnds}
+use Rattle.room.specs.Room.{putTexts, putEnds}
 use Rattle.text.specs.Lines.{rowTexts}
-use Rattle.text.proofs.Laying.{Owes, owes-all, row-turn, row-last}
+use Rattle.room.proofs.Laying.{Owes, owes-all}
+use Rattle.text.proofs.Rows.{row-turn, row-last}
 use native.Mathlib.Omega.{arith}
 use borrow.Author.Needs.{needs}
 use Rattle.text.proofs.put_row.Statement.{statement}

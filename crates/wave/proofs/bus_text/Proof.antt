@@ -2,8 +2,8 @@
 use Prim.Native.Nat.{ℕ, _+_, _/_, _%_, _^_, _≤_, _-_}
 use mathlib.Core.Path.{_≡_, sym, _∙_}
 use native.Mathlib.Omega.{arith}
-use Rattle.text.specs.Room.{laid}
-use Rattle.text.proofs.Laying.{laid-none, laid-next}
+use Rattle.room.specs.Room.{laid}
+use Rattle.room.proofs.Laying.{laid-none, laid-next}
 use Rattle.wave.proofs.Cases.{bare, bus-laid}
 use borrow.Author.Needs.{needs}
 use Rattle.wave.proofs.bus_text.Statement.{statement}

@@ -1,5 +1,5 @@
 -- `wave::put_first` meets its contract.
-use Rattle.text.proofs.Laying.{put-joined, put-one, put-some}
+use Rattle.room.proofs.Laying.{put-joined, put-one, put-some}
 use Rattle.wave.specs.Changes.{firstTexts}
 use borrow.Author.Needs.{needs}
 use Rattle.wave.proofs.put_first.Statement.{statement}

@@ -1,5 +1,5 @@
 -- `wave::put_head` meets its contract.
-use Rattle.text.proofs.Laying.{put-joined, put-one}
+use Rattle.room.proofs.Laying.{put-joined, put-one}
 use borrow.Author.Needs.{needs}
 use Rattle.wave.proofs.put_head.Statement.{statement}
 use Rattle.wave.proofs.put_head.Tie as tie

@@ -1,5 +1,5 @@
 -- `wave::put_later` meets its contract.
-use Rattle.text.proofs.Laying.{put-joined, put-some}
+use Rattle.room.proofs.Laying.{put-joined, put-some}
 use Rattle.wave.specs.Changes.{laterTexts}
 use borrow.Author.Needs.{needs}
 use Rattle.wave.proofs.put_later.Statement.{statement}

@@ -1,5 +1,5 @@
 -- `says::notes::put_refusal_note` meets its contract.
-use Rattle.text.proofs.Laying.{put-joined, put-one}
+use Rattle.room.proofs.Laying.{put-joined, put-one}
 use borrow.Author.Needs.{needs}
 use Rattle.says.proofs.notes.put_refusal_note.Statement.{statement}
 use Rattle.says.proofs.notes.put_refusal_note.Tie as tie

@@ -1,5 +1,5 @@
 -- `says::ticks::put_colour` meets its contract.
-use Rattle.text.proofs.Laying.{put-joined, put-one}
+use Rattle.room.proofs.Laying.{put-joined, put-one}
 use borrow.Author.Needs.{needs}
 use Rattle.says.proofs.ticks.put_colour.Statement.{statement}
 use Rattle.says.proofs.ticks.put_colour.Tie as tie

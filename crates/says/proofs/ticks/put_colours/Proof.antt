@@ -1,5 +1,5 @@
 -- `says::ticks::put_colours` meets its contract.
-use Rattle.text.proofs.Laying.{put-joined, put-one, put-some}
+use Rattle.room.proofs.Laying.{put-joined, put-one, put-some}
 use borrow.Author.Needs.{needs}
 use Rattle.says.proofs.ticks.put_colours.Statement.{statement}
 use Rattle.says.proofs.ticks.put_colours.Tie as tie

@@ -1,5 +1,5 @@
 -- `says::ticks::put_level` meets its contract.
-use Rattle.text.proofs.Laying.{put-joined, put-one}
+use Rattle.room.proofs.Laying.{put-joined, put-one}
 use borrow.Author.Needs.{needs}
 use Rattle.says.proofs.ticks.put_level.Statement.{statement}
 use Rattle.says.proofs.ticks.put_level.Tie as tie

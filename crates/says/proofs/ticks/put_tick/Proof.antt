@@ -1,6 +1,6 @@
 -- `says::ticks::put_tick` meets its contract.
 use Rattle.says.specs.Answers.{lineTexts}
-use Rattle.text.proofs.Laying.{put-joined, put-some}
+use Rattle.room.proofs.Laying.{put-joined, put-some}
 use borrow.Author.Needs.{needs}
 use Rattle.says.proofs.ticks.put_tick.Statement.{statement}
 use Rattle.says.proofs.ticks.put_tick.Tie as tie

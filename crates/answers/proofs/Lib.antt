@@ -1,2 +1,0 @@
--- Laws of the memory that a script lends.
-mod Filling

@@ -1,2 +1,0 @@
--- What commands do without the machine.
-pub mod Memory

@@ -1,0 +1,2 @@
+-- Laws of a memory that is filled.
+mod Filling

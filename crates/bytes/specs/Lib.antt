@@ -1,0 +1,2 @@
+-- Numbers as bytes, and the bytes of a picture memory.
+pub mod Memory

@@ -1,0 +1,20 @@
+-- The bytes of a picture memory (console.md), and numbers as bytes. Assumes nothing.
+use Prim.Native.Nat.{ℕ, _+_, _*_, _%_}
+use mathlib.Core.Bool.{cond, _&&_}
+use mathlib.Core.List.{List}
+use lib.Dec.{leb}
+use lib.ListN.{getD, replicate}
+use Rattle.room.specs.Room.{laid, fits}
+
+-- the largest memory
+abbrev pub memorySize : ℕ
+memorySize = 1048576
+
+-- `fill`: byte i from `at` on becomes (start + i x step) mod 256; as it was where they do not fit
+unfoldable pub fillMemory : List ℕ → ℕ → ℕ → ℕ → ℕ → List ℕ
+fillMemory memory at count start step =
+    cond (fits memory at count && leb count memorySize) (laid (λ i. (start + i * step) % 256) memory at count) memory
+
+-- eighty numbers as bytes, from number `from` on
+abbrev pub bytesFrom : List ℕ → ℕ → List ℕ
+bytesFrom values from = laid (λ k. getD values (from + k) 0 % 256) (replicate 80 0) 0 80

@@ -1,0 +1,2 @@
+-- Laws of names, numbers and commands.
+mod Reading

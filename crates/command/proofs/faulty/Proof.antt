@@ -1,0 +1,16 @@
+-- `command::faulty` meets its contract.
+use borrow.Author.Needs.{needs}
+use Rattle.command.proofs.faulty.Statement.{statement}
+use Rattle.command.proofs.faulty.Tie as tie
+
+no-numbers-requires : tie.Need-no-numbers-requires
+no-numbers-requires c κs = search needs
+
+no-numbers-requires-2 : tie.Need-no-numbers-requires-2
+no-numbers-requires-2 c κs = search needs
+
+returns : tie.Need-returns
+returns c = cc
+
+pub faulty-spec : {M : Type 1} → statement M
+faulty-spec = tie.close (tie.spec no-numbers-requires no-numbers-requires-2 returns)

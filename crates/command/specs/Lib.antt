@@ -1,0 +1,2 @@
+-- Commands of the bench script.
+pub mod Commands

@@ -1,0 +1,19 @@
+-- `hex::byte_text` meets its contract.
+use borrow.Author.Needs.{needs}
+use Rattle.hex.proofs.byte_text.Statement.{statement}
+use Rattle.hex.proofs.byte_text.Tie as tie
+
+wide-requires : tie.Need-wide-requires
+wide-requires c κs = search needs
+
+glyph-requires : tie.Need-glyph-requires
+glyph-requires c κs = search needs
+
+glyph-requires-2 : tie.Need-glyph-requires-2
+glyph-requires-2 c κs = search needs
+
+returns : tie.Need-returns
+returns c = cc
+
+pub byte-text-spec : {M : Type 1} → statement M
+byte-text-spec = tie.close (tie.spec wide-requires glyph-requires glyph-requires-2 returns)

@@ -1,0 +1,2 @@
+-- Numbers in hexadecimal digits.
+pub mod Hex

@@ -1,0 +1,2 @@
+-- Laws of numbers.
+mod Digits

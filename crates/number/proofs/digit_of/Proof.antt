@@ -1,0 +1,45 @@
+-- `number::digit_of` meets its contract.
+use mathlib.Core.Path.{_≡_}
+use Rattle.number.specs.Numbers.{digitOf}
+use Rattle.number.proofs.Digits.{digit-bound}
+use native.Mathlib.Omega.{arith}
+use borrow.Author.Needs.{needs}
+use Rattle.number.proofs.digit_of.Statement.{statement}
+use Rattle.number.proofs.digit_of.Tie as tie
+
+wide-requires : tie.Need-wide-requires
+wide-requires c κs = search needs
+
+less-requires : tie.Need-less-requires
+less-requires c κs = search needs
+
+first-requires : tie.Need-first-requires
+first-requires c κs = search needs
+
+less-requires-2 : tie.Need-less-requires-2
+less-requires-2 c κs = search needs
+
+first-requires-2 : tie.Need-first-requires-2
+first-requires-2 c κs = search needs
+
+less-requires-3 : tie.Need-less-requires-3
+less-requires-3 c κs = search needs
+
+first-requires-3 : tie.Need-first-requires-3
+first-requires-3 c κs = search needs
+
+returns : tie.Need-returns
+returns c = let a = c .before .before .before .before .before .before in let e : c .first3 .result ≡ digitOf (a .before .args .byte) = cc in (e, omega (arith, e, digit-bound (a .before .args .byte) (omega arith)))
+
+pub digit-of-spec : {M : Type 1} → statement M
+digit-of-spec =
+    tie.close
+    (tie.spec
+    wide-requires
+    less-requires
+    first-requires
+    less-requires-2
+    first-requires-2
+    less-requires-3
+    first-requires-3
+    returns)

@@ -1,0 +1,3 @@
+-- Numbers, and the faults of a line.
+pub mod Faults
+pub mod Numbers

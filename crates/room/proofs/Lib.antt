@@ -1,0 +1,2 @@
+-- Laws of bytes put into a room.
+pub mod Laying

@@ -1,0 +1,38 @@
+// Bytes put into a lent room.
+ghost use mathlib.Core.Path.{_≡_};
+ghost use mathlib.Core.Bool.{cond};
+ghost use lib.ListN.{length};
+ghost use Rattle.room.specs.Room.{putText, putEnd, Inside};
+
+// A text put into a room at a place, and the place past it. Where it does not fit nothing is put.
+pub fn put(room: &mut [u8], at: usize, text: &[u8]) -> usize
+    ensures place { λ r. ⌜ r ≡ putEnd (now (room .entry)) at (length (now (text .entry))) ⌝ }
+    ensures bytes { λ _. ⌜ now (room .exit) ≡ putText (now (room .entry)) at (now (text .entry)) ⌝ }
+    ensures within { λ r. ⌜ Inside (now (room .entry)) (now (room .exit)) r ⌝ }
+{
+    let end = room.len();
+    if end < at {
+        return end;
+    }
+    let count = text.len();
+    if end - at < count {
+        return at;
+    }
+    let mut i: usize = 0;
+    while i < count {
+        room[at + i] = text[i];
+        i += 1;
+    }
+    at + count
+}
+
+// One text where a test holds, and the other where not.
+pub fn put_either(room: &mut [u8], at: usize, test: bool, one: &[u8], other: &[u8]) -> usize
+    ensures place { λ r. ⌜ r ≡ putEnd (now (room .entry)) at (length (cond test (now (one .entry)) (now (other .entry)))) ⌝ }
+    ensures bytes { λ _. ⌜ now (room .exit) ≡ putText (now (room .entry)) at (cond test (now (one .entry)) (now (other .entry))) ⌝ }
+{
+    if test {
+        return put(room, at, one);
+    }
+    put(room, at, other)
+}

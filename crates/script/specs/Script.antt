@@ -1,0 +1,17 @@
+-- A whole line of the bench script (console.md): skipped, too long, or a command. Assumes nothing.
+use Prim.Native.Nat.{ℕ}
+use mathlib.Core.Bool.{Bool, true, cond, _&&_}
+use mathlib.Core.List.{List}
+use lib.Dec.{ltb, leb, eqb}
+use lib.ListN.{length, getD}
+use Rattle.number.specs.Faults.{tooLong}
+use Rattle.command.specs.Commands.{faulty, commandOf}
+use Rattle.command.specs.declared.Command.{Command}
+
+-- a line that answers nothing: empty, or a remark
+abbrev pub skipped : List ℕ → Bool
+skipped line = cond (eqb (length line) 0) true (leb (length line) 1000 && eqb (getD line 0 0) 59)
+
+-- a line of more than 1,000 bytes is too long, whatever it holds
+abbrev pub lineCommand : List ℕ → ℕ → Command
+lineCommand line memory = cond (ltb 1000 (length line)) (faulty 13 tooLong) (commandOf line memory)

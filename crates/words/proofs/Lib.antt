@@ -1,0 +1,2 @@
+-- Laws of the words of a line.
+mod Parting
