@@ -4,6 +4,7 @@ ghost use mathlib.Core.Bool.{cond};
 ghost use lib.Dec.{ltb};
 ghost use Prim.Native.Nat.{_+_, _-_, _≤_};
 ghost use lib.ListN.{length};
+ghost use Rattle.input.specs.Input.{takenLine, takenRoom, lineOf};
 
 // The next byte of the piece, the bytes held of a line, and whether the line has ended. Past the longest line bytes are counted no more.
 pub struct Held {
@@ -16,6 +17,8 @@ pub struct Held {
 pub fn take_line(piece: &[u8], from: usize, line: &mut [u8], held: usize) -> Held
     ensures on { λ r. ⌜ length (now (piece .entry)) - r .at ≤ length (now (piece .entry)) - (from + 1) ⌝ }
     ensures room { λ _. ⌜ length (now (line .exit)) ≡ length (now (line .entry)) ⌝ }
+    ensures taken { λ r. ⌜ r ≡ takenLine (now (piece .entry)) from (now (line .entry)) held ⌝ }
+    ensures bytes { λ _. ⌜ now (line .exit) ≡ takenRoom (now (piece .entry)) from (now (line .entry)) held ⌝ }
 {
     let mut at = from;
     let mut kept = held;
@@ -44,6 +47,7 @@ pub fn take_line(piece: &[u8], from: usize, line: &mut [u8], held: usize) -> Hel
 // The bytes of a line: those held, less a CR just before its end.
 pub fn line_of(line: &[u8], held: usize, ended: bool) -> &[u8]
     ensures within { λ r. ⌜ length (now r) ≤ length (now (line .entry)) ⌝ }
+    ensures bytes { λ r. ⌜ now r ≡ lineOf (now (line .entry)) held ended ⌝ }
 {
     if line.len() < held {
         return &line[..];

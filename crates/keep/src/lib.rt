@@ -1,39 +1,53 @@
 // What `memory`, `poke` and `fill` leave in the memory lent.
 ghost use mathlib.Core.Path.{_≡_};
-ghost use lib.ListN.{length};
+ghost use lib.ListN.{length, getD};
+ghost use Rattle.room.specs.Room.{putText};
 ghost use Rattle.bytes.specs.Memory.{fillMemory};
-use bytes::bytes_of;
-use bytes::one_less;
+ghost use Rattle.keep.specs.Keep.{pokeBytes, keptMemory, keptLength};
 use command::Command;
 use text::bytes::lent;
 
-// `fill`, by its four numbers.
-fn filled(memory: &mut [u8], at: u32, count: u32, start: u32, step: u32)
-    ensures bytes { λ _. ⌜ now (memory .exit) ≡ fillMemory (now (memory .entry)) at count start step ⌝ }
+// `fill`, by its numbers.
+fn filled(memory: &mut [u8], values: [u32; 81])
+    ensures bytes { λ _. ⌜ now (memory .exit) ≡ fillMemory (now (memory .entry)) (getD values 0 0) (getD values 1 0) (getD values 2 0) (getD values 3 0) ⌝ }
     ensures room { λ _. ⌜ length (now (memory .exit)) ≡ length (now (memory .entry)) ⌝ }
 {
-    bytes::fill(memory, at as usize, count as usize, start, step);
+    let at = values[0] as usize;
+    let count = values[1] as usize;
+    bytes::fill(memory, at, count, values[2], values[3]);
+}
+
+// `poke`, by its numbers.
+fn poked(memory: &mut [u8], values: [u32; 81], count: usize)
+    ensures bytes { λ _. ⌜ now (memory .exit) ≡ putText (now (memory .entry)) (getD values 0 0) (pokeBytes values count) ⌝ }
+    ensures room { λ _. ⌜ length (now (memory .exit)) ≡ length (now (memory .entry)) ⌝ }
+{
+    let bytes = bytes::bytes_of(&values, 1);
+    let at = values[0] as usize;
+    let many = bytes::one_less(count);
+    room::put(memory, at, lent(&bytes, many));
 }
 
 // `memory`, `poke` and `fill`: the bytes after it, and how many are lent from now on.
-pub fn kept(c: Command, memory: &mut [u8], lent_now: u32) -> u32
+pub fn kept(c: Command, memory: &mut [u8], before: u32) -> u32
     ensures room { λ _. ⌜ length (now (memory .exit)) ≡ length (now (memory .entry)) ⌝ }
+    ensures lent { λ r. ⌜ r ≡ keptLength c before ⌝ }
+    ensures bytes { λ _. ⌜ now (memory .exit) ≡ keptMemory c (now (memory .entry)) ⌝ }
 {
+    let name = c.name;
     let left = c.left;
     let values = left.values;
     let first = values[0];
-    if c.name == command::MEMORY {
-        filled(memory, 0, first, 0, 0);
+    if name == command::MEMORY {
+        bytes::fill(memory, 0, first as usize, 0, 0);
         return first;
     }
-    if c.name == command::POKE {
-        let bytes = bytes_of(&values, 1);
-        let count = one_less(left.count);
-        room::put(memory, first as usize, lent(&bytes, count));
-        return lent_now;
+    if name == command::POKE {
+        poked(memory, values, left.count);
+        return before;
     }
-    if c.name == command::FILL {
-        filled(memory, first, values[1], values[2], values[3]);
+    if name == command::FILL {
+        filled(memory, values);
     }
-    lent_now
+    before
 }

@@ -30,7 +30,7 @@ loop-less : tie.Need-loop-less Inv-loop μ-loop
 loop-less c = search needs
 
 loop-again : tie.Need-loop-again Inv-loop μ-loop
-loop-again c = let l = c .before .before .before .before .before .before .before .before .before .before .before .before .before .before .before .before .before .before .loop in (c .before .before .before .before .before .before .answered .ensures, ((omega (arith, l .inv .1 .0 .0, c .before .before .before .before .before .before .before .before .before .before .before .before .before .before .before .take-line .ensures .1), omega (arith, l .inv .1 .0 .1, c .before .before .before .before .before .memory .given)), (omega (arith, l .inv .1 .1 .0, c .before .before .before .picture .given), omega (arith, l .inv .1 .1 .1, c .before .out .given))))
+loop-again c = let l = c .before .before .before .before .before .before .before .before .before .before .before .before .before .before .before .before .before .before .loop in (c .before .before .before .before .before .before .answered .ensures, ((omega (arith, l .inv .1 .0 .0, c .before .before .before .before .before .before .before .before .before .before .before .before .before .before .before .take-line .ensures .1 .0), omega (arith, l .inv .1 .0 .1, c .before .before .before .before .before .memory .given)), (omega (arith, l .inv .1 .1 .0, c .before .before .before .picture .given), omega (arith, l .inv .1 .1 .1, c .before .out .given))))
 
 loop-less-2 : tie.Need-loop-less-2 Inv-loop μ-loop
 loop-less-2 c = search needs

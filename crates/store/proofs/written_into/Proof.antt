@@ -1,6 +1,11 @@
 -- `store::written_into` meets its contract.
-use mathlib.Core.Path.{sym}
+use Prim.Native.Nat.{ℕ}
+use mathlib.Core.List.{List, _++_}
+use mathlib.Core.Path.{sym, ap}
+use lib.ListN.{drop}
 use lib.Seq.{length-take-le}
+use native.Mathlib.Omega.{arith}
+use Rattle.store.proofs.Cases.{into-refusal, into-whole}
 use borrow.Author.Needs.{needs}
 use Rattle.store.proofs.written_into.Statement.{statement}
 use Rattle.store.proofs.written_into.Tie as tie
@@ -18,7 +23,7 @@ same-length : tie.Need-same-length
 same-length c = search needs
 
 returns : tie.Need-returns
-returns c = search needs
+returns c = let a = c .before .before .before .before .before .before .args in let w = c .before .before .write .ensures in (search needs, (w .0, ap (λ (l : List ℕ). l ++ drop (a .count) (a .room .now)) (w .1)))
 
 write-requires-2 : tie.Need-write-requires-2
 write-requires-2 c κs = search needs
@@ -27,7 +32,7 @@ same-length-2 : tie.Need-same-length-2
 same-length-2 c = search needs
 
 returns-2 : tie.Need-returns-2
-returns-2 c = search needs
+returns-2 c = let a = c .before .before .before .before .before .before .args in let w = c .before .before .write2 .ensures in (search needs, (into-refusal (a .values) (a .room .now) (a .count) (omega arith) _ (w .0), into-whole (a .values) (a .room .now) (a .count) (omega arith) _ (w .1)))
 
 pub written-into-spec : {M : Type 1} → statement M
 written-into-spec =

@@ -1,0 +1,2 @@
+-- Laws of lines that are cut out of pieces.
+mod Taking

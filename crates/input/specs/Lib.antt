@@ -1,0 +1,2 @@
+-- Lines cut out of input that comes in pieces.
+pub mod Input

@@ -1,0 +1,2 @@
+-- Laws of the memory lent.
+mod Cases

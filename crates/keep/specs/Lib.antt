@@ -1,0 +1,2 @@
+-- The memory lent, after a command.
+pub mod Keep

@@ -1,0 +1,2 @@
+-- Laws of a sheet that is written into a part of a room.
+mod Cases

@@ -1,0 +1,21 @@
+-- `store::stored_of` meets its contract: the sheet's values are its numbers past the first.
+use mathlib.Core.Path.{refl}
+use Rattle.store.specs.Store.{storedOf}
+use borrow.Author.Needs.{needs}
+use Rattle.store.proofs.stored_of.Statement.{statement}
+use Rattle.store.proofs.stored_of.Tie as tie
+
+returns : tie.Need-returns
+unfolding storedOf
+returns c = (refl, cc)
+
+pub stored-of-spec : {M : Type 1} → statement M
+stored-of-spec =
+    tie.close
+    (tie.spec
+    (λ c. search needs)
+    (λ c. search needs)
+    (λ c κs. search needs)
+    (λ c. search needs)
+    (λ c κs. search needs)
+    returns)

@@ -1,0 +1,2 @@
+-- What `store` leaves.
+pub mod Store
