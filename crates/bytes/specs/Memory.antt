@@ -1,9 +1,9 @@
 -- The bytes of a picture memory (console.md), and numbers as bytes. Assumes nothing.
-use Prim.Native.Nat.{ℕ, _+_, _*_, _%_}
+use Prim.Native.Nat.{ℕ, _+_, _-_, _*_, _%_}
 use mathlib.Core.Bool.{cond, _&&_}
 use mathlib.Core.List.{List}
 use lib.Dec.{leb}
-use lib.ListN.{getD, replicate}
+use lib.ListN.{getD, take, replicate}
 use Rattle.room.specs.Room.{laid, fits}
 
 -- the largest memory
@@ -18,3 +18,7 @@ fillMemory memory at count start step =
 -- eighty numbers as bytes, from number `from` on
 abbrev pub bytesFrom : List ℕ → ℕ → List ℕ
 bytesFrom values from = laid (λ k. getD values (from + k) 0 % 256) (replicate 80 0) 0 80
+
+-- the bytes that `poke` stores: the words past the first
+abbrev pub pokeBytes : List ℕ → ℕ → List ℕ
+pokeBytes values count = take (count - 1) (bytesFrom values 1)

@@ -6,8 +6,8 @@ use mathlib.Core.Bool.{false}
 use lib.Dec.{eqb}
 use borrow.Author.Tests.{eq-eqb, ne-eqb}
 use Rattle.room.specs.Room.{putText}
-use Rattle.bytes.specs.Memory.{fillMemory}
-use Rattle.keep.specs.Keep.{number, pokeBytes, keptMemory, keptLength}
+use Rattle.bytes.specs.Memory.{fillMemory, pokeBytes}
+use Rattle.keep.specs.Keep.{number, keptMemory, keptLength}
 use Rattle.command.specs.declared.Command.{Command}
 
 module _ (c : Command) (before : ℕ) (memory after : List ℕ) where

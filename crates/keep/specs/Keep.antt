@@ -1,20 +1,16 @@
 -- What `memory`, `poke` and `fill` leave in the memory lent (console.md). Assumes nothing.
-use Prim.Native.Nat.{ℕ, _-_}
+use Prim.Native.Nat.{ℕ}
 use mathlib.Core.Bool.{cond}
 use mathlib.Core.List.{List}
 use lib.Dec.{eqb}
-use lib.ListN.{getD, take}
+use lib.ListN.{getD}
 use Rattle.room.specs.Room.{putText}
-use Rattle.bytes.specs.Memory.{fillMemory, bytesFrom}
+use Rattle.bytes.specs.Memory.{fillMemory, pokeBytes}
 use Rattle.command.specs.declared.Command.{Command}
 
 -- number k of a command
 abbrev pub number : Command → ℕ → ℕ
 number c k = getD (c .left .values) k 0
-
--- the bytes that `poke` stores: the words past the first
-abbrev pub pokeBytes : List ℕ → ℕ → List ℕ
-pokeBytes values count = take (count - 1) (bytesFrom values 1)
 
 -- the bytes after `memory` (2), `poke` (3) and `fill` (4); any other command leaves them as they were
 unfoldable pub keptMemory : Command → List ℕ → List ℕ

@@ -1,32 +1,8 @@
 // What `memory`, `poke` and `fill` leave in the memory lent.
 ghost use mathlib.Core.Path.{_≡_};
-ghost use lib.ListN.{length, getD};
-ghost use Rattle.room.specs.Room.{putText};
-ghost use Rattle.bytes.specs.Memory.{fillMemory};
-ghost use Rattle.keep.specs.Keep.{pokeBytes, keptMemory, keptLength};
+ghost use lib.ListN.{length};
+ghost use Rattle.keep.specs.Keep.{keptMemory, keptLength};
 use command::Command;
-use text::bytes::lent;
-
-// `fill`, by its numbers.
-fn filled(memory: &mut [u8], values: [u32; 81])
-    ensures bytes { λ _. ⌜ now (memory .exit) ≡ fillMemory (now (memory .entry)) (getD values 0 0) (getD values 1 0) (getD values 2 0) (getD values 3 0) ⌝ }
-    ensures room { λ _. ⌜ length (now (memory .exit)) ≡ length (now (memory .entry)) ⌝ }
-{
-    let at = values[0] as usize;
-    let count = values[1] as usize;
-    bytes::fill(memory, at, count, values[2], values[3]);
-}
-
-// `poke`, by its numbers.
-fn poked(memory: &mut [u8], values: [u32; 81], count: usize)
-    ensures bytes { λ _. ⌜ now (memory .exit) ≡ putText (now (memory .entry)) (getD values 0 0) (pokeBytes values count) ⌝ }
-    ensures room { λ _. ⌜ length (now (memory .exit)) ≡ length (now (memory .entry)) ⌝ }
-{
-    let bytes = bytes::bytes_of(&values, 1);
-    let at = values[0] as usize;
-    let many = bytes::one_less(count);
-    room::put(memory, at, lent(&bytes, many));
-}
 
 // `memory`, `poke` and `fill`: the bytes after it, and how many are lent from now on.
 pub fn kept(c: Command, memory: &mut [u8], before: u32) -> u32
@@ -43,11 +19,11 @@ pub fn kept(c: Command, memory: &mut [u8], before: u32) -> u32
         return first;
     }
     if name == command::POKE {
-        poked(memory, values, left.count);
+        answers::poked(memory, values, left.count);
         return before;
     }
     if name == command::FILL {
-        filled(memory, values);
+        answers::filled(memory, values);
     }
     before
 }

@@ -1,7 +1,7 @@
--- `keep::poked` meets its contract: what is put are its words past the first.
+-- `answers::poked` meets its contract: what is put are its words past the first.
 use borrow.Author.Needs.{needs}
-use Rattle.keep.proofs.poked.Statement.{statement}
-use Rattle.keep.proofs.poked.Tie as tie
+use Rattle.answers.proofs.poked.Statement.{statement}
+use Rattle.answers.proofs.poked.Tie as tie
 
 returns : tie.Need-returns
 returns c = (cc, search needs)
