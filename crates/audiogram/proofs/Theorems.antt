@@ -12,8 +12,8 @@ use lib.Seq.{getD-append-add, getD-drop}
 use Rattle.base.specs.Count.{some, run}
 use Rattle.base.proofs.Run.{run-length, run-entry}
 use Rattle.frame.proofs.Some.{some-none, some-at}
-use Rattle.pixel.specs.Memory.{pixelAt}
-use Rattle.pixel.proofs.Bytes.{pixel-inside}
+use Rattle.memory.specs.Memory.{pixelAt}
+use Rattle.memory.proofs.Bytes.{pixel-inside}
 use Rattle.ear.specs.Marks.{mark}
 use Rattle.ear.specs.Ear.{measured, columns, pointOf, keyOf, lastBefore, coveredAt, shows}
 use Rattle.form.specs.Form.{form}

@@ -11,8 +11,8 @@ use Rattle.units.specs.Parameters
 use Rattle.screen.specs.Limits
 use Rattle.registers.specs.Map
 use Rattle.registers.specs.File
-use Rattle.pixel.specs.Memory.{pixelShown}
-use Rattle.pixel.specs.Colour.{maskedColour}
+use Rattle.memory.specs.Memory.{pixelShown}
+use Rattle.colour.specs.Colour.{maskedColour}
 use Rattle.pixel.specs.Dot.{dotAt}
 use Rattle.machine.specs.Rules
 use Rattle.ear.specs.Ear.{shows}

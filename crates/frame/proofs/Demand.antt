@@ -18,7 +18,7 @@ use Rattle.screen.specs.Limits.{Accepted}
 use Rattle.screen.specs.Totals.{frameTicks, frameVisible, frameTransfers, framePixels, roundedUp}
 use Rattle.units.specs.declared.Screen.{Screen}
 use Rattle.registers.specs.declared.Registers.{Registers}
-use Rattle.pixel.specs.Memory.{endsBeyond}
+use Rattle.memory.specs.Memory.{endsBeyond}
 use Rattle.pixel.specs.Dot.{dotAt}
 use Rattle.generator.specs.Rows.{screen, visibleAt, topUsed, transferAt, heldAddress, place}
 use Rattle.generator.specs.Tick.{positionUsed, shows, dotOf, refuses20, seenAfter, signals, signalsWith, tickRefusal, tickOf, after}

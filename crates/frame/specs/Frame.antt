@@ -10,7 +10,7 @@ use Rattle.control.specs.Control.{forcedBlank, transferring, increment, pixelBi
 use Rattle.units.specs.Parameters.{rowLength}
 use Rattle.screen.specs.Totals.{frameTicks, frameVisible, framePixels}
 use Rattle.registers.specs.declared.Registers.{Registers}
-use Rattle.pixel.specs.Memory.{endsBeyond}
+use Rattle.memory.specs.Memory.{endsBeyond}
 use Rattle.pixel.specs.Dot.{black}
 use Rattle.pixel.specs.Sums.{none, summed}
 use Rattle.pixel.specs.declared.Dot.{Dot}

@@ -11,12 +11,12 @@ use Rattle.base.specs.Count.{count, some, run}
 use Rattle.control.specs.Control.{running, transferring, pixelBits}
 use Rattle.units.specs.declared.Screen.{Screen}
 use Rattle.registers.specs.declared.Registers.{Registers}
-use Rattle.pixel.specs.Memory.{endsBeyond}
+use Rattle.memory.specs.Memory.{endsBeyond}
 use Rattle.pixel.specs.Dot.{dotAt, black}
 use Rattle.pixel.specs.Sums.{none, summed}
 use Rattle.pixel.specs.declared.Dot.{Dot}
 use Rattle.pixel.specs.declared.Sums.{Sums}
-use Rattle.pixel.proofs.Laws.{ends-beyond-later}
+use Rattle.memory.proofs.Laws.{ends-beyond-later}
 use Rattle.generator.specs.Rows.{screen, visibleAt, heldAddress, place, asks, requestAt}
 use Rattle.generator.specs.Tick.{shows, dotOf, dots, refuses20, cleared, sumsAfter, seenAfter, stepWith, signalsWith, signals, silent, tickRefusal, tickOf}
 use Rattle.generator.specs.Stand.{Runs, Stands}

@@ -7,7 +7,7 @@ use lib.Dec.{eqb}
 use Rattle.base.specs.Count.{some, run}
 use Rattle.control.specs.Control.{running, plain, forcedBlank, transferring, pixelBits}
 use Rattle.registers.specs.declared.Registers.{Registers}
-use Rattle.pixel.specs.Memory.{endsBeyond}
+use Rattle.memory.specs.Memory.{endsBeyond}
 use Rattle.pixel.specs.Dot.{dotAt, black}
 use Rattle.pixel.specs.Sums.{none, summed}
 use Rattle.pixel.specs.declared.Dot.{Dot}

@@ -21,7 +21,7 @@ pub fn is_refused(r: Registers, g: Generator, t: Stand, memory: &[u8]) -> bool
     requires { ⌜ Stands r g t ⌝ }
     ensures refusal { λ b. ⌜ b ≡ refuses20 r (now (memory .entry)) g ⌝ }
 {
-    let far = pixel::ends_beyond(r.control, memory, t.place + 3);
+    let far = memory::ends_beyond(r.control, memory, t.place + 3);
     let on = control::is_transferring(r.control);
     t.shows & (on & far)
 }

@@ -11,7 +11,7 @@ use Rattle.control.specs.Control.{field, bit, running, plain, forcedBlank, tran
 use Rattle.screen.specs.Limits.{laterLimit, limitOf}
 use Rattle.units.specs.declared.Screen.{Screen}
 use Rattle.registers.specs.declared.Registers.{Registers}
-use Rattle.pixel.specs.Memory.{pixelShown}
+use Rattle.memory.specs.Memory.{pixelShown}
 use Rattle.pixel.specs.Dot.{dotAt}
 use Rattle.pixel.specs.declared.Dot.{Dot}
 use Rattle.pixel.specs.declared.Sums.{Sums}

@@ -12,7 +12,7 @@ use Rattle.registers.specs.Map.{placeOf, numberOf, isParameter, isControl, isCh
 use Rattle.registers.specs.File.{zeros, valueIn, storeIn}
 use Rattle.registers.specs.declared.Place.{Place}
 use Rattle.registers.specs.declared.Registers.{Registers}
-use Rattle.pixel.specs.Colour.{colourOf}
+use Rattle.colour.specs.Colour.{colourOf}
 use Rattle.pixel.specs.declared.Sums.{Sums}
 use Rattle.generator.specs.Rows.{screen}
 use Rattle.generator.specs.Tick.{displaying, tickOf, fresh}

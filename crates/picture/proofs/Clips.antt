@@ -9,8 +9,8 @@ use borrow.Author.Tests.{lt-ltb, le-ltb, ltb-true, ltb-false, leb-false}
 use lib.Dec.{ltb, leb}
 use lib.IntN.{pos, _-ℤ_}
 use Rattle.control.specs.Control.{field, cursorOn}
-use Rattle.pixel.specs.Cursor.{signed12, within, cursorCode}
-use Rattle.pixel.proofs.Cases.{code-beside, code-above}
+use Rattle.cursor.specs.Cursor.{signed12, within, cursorCode}
+use Rattle.cursor.proofs.Cases.{code-beside, code-above}
 use Rattle.picture.specs.Span.{codeOver, biased, Clipped}
 use Rattle.picture.specs.declared.span.Stretch.{Stretch}
 

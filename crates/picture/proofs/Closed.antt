@@ -16,13 +16,13 @@ use Rattle.control.specs.Control.{running, forcedBlank, transferring, field, de
 use Rattle.control.proofs.Laws.{increment-positive}
 use Rattle.screen.specs.Totals.{frameTicks, frameVisible}
 use Rattle.registers.specs.declared.Registers.{Registers}
-use Rattle.pixel.specs.Memory.{bitsAt, pixelShown}
-use Rattle.pixel.specs.Colour.{maskedPalette}
+use Rattle.memory.specs.Memory.{bitsAt, pixelShown}
+use Rattle.colour.specs.Colour.{maskedPalette}
 use Rattle.pixel.specs.Dot.{codeShown, dotAt, black}
-use Rattle.pixel.specs.Cursor.{over}
+use Rattle.cursor.specs.Cursor.{over}
 use Rattle.pixel.specs.Sums.{none}
 use Rattle.pixel.specs.declared.Sums.{Sums}
-use Rattle.pixel.proofs.Laws.{masked-palette-entry}
+use Rattle.colour.proofs.Laws.{masked-palette-entry}
 use Rattle.generator.specs.Rows.{screen, place, asks}
 use Rattle.generator.specs.Tick.{dotOf, after}
 use Rattle.generator.specs.Sound.{Sound}

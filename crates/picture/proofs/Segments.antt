@@ -10,10 +10,10 @@ use mir.Syntax.{w64}
 use Rattle.base.specs.Count.{some, run}
 use Rattle.base.proofs.Run.{run-same}
 use Rattle.control.specs.Control.{forcedBlank, transferring, pixelBits}
-use Rattle.pixel.specs.Memory.{endsBeyond}
+use Rattle.memory.specs.Memory.{endsBeyond}
 use Rattle.pixel.specs.declared.Dot.{Dot}
 use Rattle.pixel.specs.declared.Sums.{Sums}
-use Rattle.pixel.proofs.Laws.{ends-beyond-later}
+use Rattle.memory.proofs.Laws.{ends-beyond-later}
 use Rattle.generator.proofs.Bounds.{place-in}
 use Rattle.picture.specs.Span.{Painted, coveredDot, Small}
 use Rattle.picture.specs.Plan.{Sized, addressIn, placeIn, dotIn, refusesIn, Cut, stretchOf}

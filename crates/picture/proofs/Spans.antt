@@ -8,7 +8,7 @@ use lib.ListN.{length, set}
 use lib.Seq.{sets, sets-eq, length-sets, drop-length}
 use Rattle.base.specs.Count.{run}
 use Rattle.base.proofs.Run.{run-length, run-append, run-same}
-use Rattle.pixel.specs.Colour.{red, green, blue}
+use Rattle.colour.specs.Colour.{red, green, blue}
 use Rattle.pixel.specs.Sums.{summed}
 use Rattle.pixel.specs.declared.Dot.{Dot}
 use Rattle.pixel.specs.declared.Sums.{Sums}

@@ -8,7 +8,7 @@ use lib.ListN.{length}
 use Rattle.control.specs.Control.{running}
 use Rattle.screen.specs.Totals.{frameTicks, framePixels}
 use Rattle.registers.specs.declared.Registers.{Registers}
-use Rattle.pixel.specs.Colour.{red, green, blue}
+use Rattle.colour.specs.Colour.{red, green, blue}
 use Rattle.pixel.specs.declared.Dot.{Dot}
 use Rattle.generator.specs.Rows.{screen}
 use Rattle.generator.specs.Tick.{after}

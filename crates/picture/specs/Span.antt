@@ -6,8 +6,8 @@ use mathlib.Core.Path.{_≡_}
 use lib.ListN.{getD}
 use lib.Seq.{sets}
 use Rattle.control.specs.Control.{cursorOn}
-use Rattle.pixel.specs.Memory.{pixelShown}
-use Rattle.pixel.specs.Cursor.{cursorCode, over}
+use Rattle.memory.specs.Memory.{pixelShown}
+use Rattle.cursor.specs.Cursor.{cursorCode, over}
 use Rattle.pixel.specs.Sums.{summed}
 use Rattle.pixel.specs.declared.Dot.{Dot}
 use Rattle.pixel.specs.declared.Sums.{Sums}

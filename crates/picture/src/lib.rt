@@ -64,7 +64,7 @@ fn draw_frame(r: Registers, p: rows::Plan, memory: &[u8], buffer: &mut [u8]) -> 
         span::blacken(buffer);
         return Sums::none();
     }
-    let table = pixel::masked_palette(&palette, r.mask);
+    let table = colour::masked_palette(&palette, r.mask);
     rows::draw_rows(buffer, memory, p, &table, &store, &colours)
 }
 

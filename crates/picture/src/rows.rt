@@ -4,7 +4,7 @@ ghost use Prim.Native.Nat.{_+_, _*_, _^_, _≤_, _<_, min};
 ghost use lib.ListN.{length};
 ghost use Rattle.base.specs.Count.{run, some};
 ghost use Rattle.control.specs.Control.{pixelBits};
-ghost use Rattle.pixel.specs.Memory.{endsBeyond};
+ghost use Rattle.memory.specs.Memory.{endsBeyond};
 ghost use Rattle.pixel.specs.Sums.{none};
 ghost use Rattle.picture.specs.Span.{Painted};
 ghost use Rattle.picture.specs.Plan.{Ready, planOf, Sized, addressIn, placeIn, dotIn, refusesIn, endIn, Cut, stretchOf};
@@ -113,7 +113,7 @@ fn is_beyond(p: Plan, memory: &[u8]) -> bool
     let mut v: u64 = 0;
     while v < p.visible {
         let g = segment_at(p, v);
-        let far = pixel::ends_beyond(p.control, memory, g.from + 4 * g.ticks - 1);
+        let far = memory::ends_beyond(p.control, memory, g.from + 4 * g.ticks - 1);
         beyond = beyond | far;
         v += g.ticks;
     }

@@ -5,7 +5,7 @@ ghost use Prim.Native.Nat.{_+_, _-_, _*_, _%_, _≤_, _<_, min};
 ghost use lib.ListN.{length, replicate};
 ghost use lib.Seq.{sets};
 ghost use Rattle.base.specs.Count.{run};
-ghost use Rattle.pixel.specs.Colour.{red, green, blue};
+ghost use Rattle.colour.specs.Colour.{red, green, blue};
 ghost use Rattle.picture.specs.Span.{Painted, plainColour, plainDot, coveredDot, biased, Small, partOf, Clipped};
 use pixel::Dot;
 use pixel::Sums;
@@ -30,9 +30,9 @@ fn put(buffer: &mut [u8], k: usize, colour: u32)
     requires { ⌜ k + 3 ≤ length (now buffer) ⌝ }
     ensures bytes { λ _. ⌜ now (buffer .exit) ≡ sets (now (buffer .entry)) k (red colour ∷ green colour ∷ blue colour ∷ []) ⌝ }
 {
-    let red = pixel::red_byte(colour);
-    let green = pixel::green_byte(colour);
-    let blue = pixel::blue_byte(colour);
+    let red = colour::red_byte(colour);
+    let green = colour::green_byte(colour);
+    let blue = colour::blue_byte(colour);
     buffer[k] = red;
     buffer[k + 1] = green;
     buffer[k + 2] = blue;
@@ -51,7 +51,7 @@ fn paint(buffer: &mut [u8], k: usize, colour: u32, sums: Sums) -> Sums
 fn look(memory: &[u8], place: u64, control: u32, table: &[u32; 256]) -> u32
     ensures colour { λ c. ⌜ c ≡ plainColour control (now (table .entry)) (now (memory .entry)) place ⌝ }
 {
-    let pixel = pixel::pixel_shown(control, memory, place) as usize;
+    let pixel = memory::pixel_shown(control, memory, place) as usize;
     table[pixel]
 }
 
@@ -112,8 +112,8 @@ fn draw_under(
     let mut i: u64 = 0;
     let mut k = s.at;
     while i < count {
-        let code = base::first(on, pixel::cursor_code(store, position, x + i as u32, y), 0);
-        let colour = pixel::cover(colours, code, look(memory, from + i, control, table));
+        let code = base::first(on, cursor::cursor_code(store, position, x + i as u32, y), 0);
+        let colour = cursor::cover(colours, code, look(memory, from + i, control, table));
         t = paint(buffer, k, colour, t);
         i += 1;
         k += 3;

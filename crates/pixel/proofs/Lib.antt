@@ -1,5 +1,3 @@
 -- Laws that callers of `pixel` use, and laws of its own proofs.
 pub mod Laws
-pub mod Bytes
-pub mod Signed
 pub mod Cases

@@ -4,9 +4,9 @@ use mathlib.Core.Bool.{cond}
 use mathlib.Core.List.{List}
 use Rattle.control.specs.Control.{cursorOn}
 use Rattle.registers.specs.declared.Registers.{Registers}
-use Rattle.pixel.specs.Memory.{pixelShown}
-use Rattle.pixel.specs.Colour.{maskedColour}
-use Rattle.pixel.specs.Cursor.{cursorCode, over}
+use Rattle.memory.specs.Memory.{pixelShown}
+use Rattle.colour.specs.Colour.{maskedColour}
+use Rattle.cursor.specs.Cursor.{cursorCode, over}
 use Rattle.pixel.specs.declared.Dot.{Dot}
 
 -- the code of the cursor at pixel x of line y, where it is switched on; its position is a parameter of the rule

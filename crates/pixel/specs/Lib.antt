@@ -1,6 +1,3 @@
--- The rules of a pixel: from picture memory to the colour that goes out, and its checksums.
-pub mod Memory
-pub mod Colour
-pub mod Cursor
+-- The rules of a pixel put out and its checksums.
 pub mod Dot
 pub mod Sums

@@ -1,7 +1,7 @@
 -- The checksums (01, "Rows and pixels"): each unblanked colour byte is added to its 24-bit sum. Assumes nothing.
 use mathlib.Core.List.{List, [], _∷_}
 use Rattle.base.specs.Sum.{rolled}
-use Rattle.pixel.specs.Colour.{red, green, blue}
+use Rattle.colour.specs.Colour.{red, green, blue}
 use Rattle.pixel.specs.declared.Dot.{Dot}
 use Rattle.pixel.specs.declared.Sums.{Sums}
 

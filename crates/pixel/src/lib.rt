@@ -1,17 +1,4 @@
 // One pixel (01, "Rows and pixels"): from picture memory through mask, palette and cursor to the colour put out, and its checksums.
-mod colour;
-mod cursor;
-mod memory;
-
-pub use colour::blue_byte;
-pub use colour::green_byte;
-pub use colour::masked_colour;
-pub use colour::masked_palette;
-pub use colour::red_byte;
-pub use cursor::cover;
-pub use cursor::cursor_code;
-pub use memory::ends_beyond;
-pub use memory::pixel_shown;
 ghost use mathlib.Core.Path.{_≡_};
 ghost use Rattle.pixel.specs.Dot.{dotAt};
 ghost use Rattle.pixel.specs.Sums.{none, added};
@@ -44,12 +31,12 @@ pub fn dot_at(
     let palette = r.palette;
     let store = r.store;
     let colours = r.colours;
-    let pixel = pixel_shown(r.control, memory, place);
-    let below = masked_colour(&palette, r.mask, pixel);
+    let pixel = memory::pixel_shown(r.control, memory, place);
+    let below = colour::masked_colour(&palette, r.mask, pixel);
     let on = control::is_cursor_on(r.control);
-    let code = base::first(on, cursor_code(&store, position, x, y), 0);
+    let code = base::first(on, cursor::cursor_code(&store, position, x, y), 0);
     Dot {
-        colour: cover(&colours, code, below),
+        colour: cursor::cover(&colours, code, below),
     }
 }
 
@@ -69,9 +56,9 @@ impl Sums {
     pub fn added(self, dot: Dot) -> Sums
         ensures sums { λ r. ⌜ r ≡ added self dot ⌝ }
     {
-        let red = base::wide(red_byte(dot.colour));
-        let green = base::wide(green_byte(dot.colour));
-        let blue = base::wide(blue_byte(dot.colour));
+        let red = base::wide(colour::red_byte(dot.colour));
+        let green = base::wide(colour::green_byte(dot.colour));
+        let blue = base::wide(colour::blue_byte(dot.colour));
         Sums {
             red: base::rolled_sum(self.red, red),
             green: base::rolled_sum(self.green, green),

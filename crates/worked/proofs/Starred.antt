@@ -6,9 +6,9 @@ use Rattle.screen.specs.Limits
 use Rattle.screen.specs.Totals
 use Rattle.registers.specs.Map
 use Rattle.registers.specs.File
-use Rattle.pixel.specs.Memory
-use Rattle.pixel.specs.Colour
-use Rattle.pixel.specs.Cursor
+use Rattle.memory.specs.Memory
+use Rattle.colour.specs.Colour
+use Rattle.cursor.specs.Cursor
 use Rattle.pixel.specs.Dot
 use Rattle.pixel.specs.Sums
 use Rattle.lines.specs.Lines

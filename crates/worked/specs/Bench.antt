@@ -9,7 +9,7 @@ use Rattle.units.specs.Parameters.{screenOf}
 use Rattle.screen.specs.Limits.{limitOf}
 use Rattle.screen.specs.Totals.{totalsOf}
 use Rattle.screen.specs.declared.Totals.{Totals}
-use Rattle.pixel.specs.Colour.{maskedColour}
+use Rattle.colour.specs.Colour.{maskedColour}
 use Rattle.generator.specs.declared.Signals.{Signals}
 use Rattle.machine.specs.Rules.{beginning, written, advanced}
 use Rattle.machine.specs.declared.Machine.{Machine}

@@ -5,7 +5,7 @@ use native.Mathlib.Omega.{arith}
 use borrow.Author.Needs.{needs}
 use Rattle.base.specs.Count.{some}
 use Rattle.control.specs.Control.{pixelBits}
-use Rattle.pixel.specs.Memory.{endsBeyond}
+use Rattle.memory.specs.Memory.{endsBeyond}
 use Rattle.picture.specs.Plan.{placeIn}
 use Rattle.picture.proofs.Segments.{beyond-more}
 use Rattle.picture.proofs.rows.is_beyond.Statement.{statement}

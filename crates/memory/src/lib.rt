@@ -1,0 +1,61 @@
+// Picture memory (01, "Rows and pixels"): a pixel out of packed bytes, at any depth, and where the memory ends.
+ghost use mathlib.Core.Path.{_≡_};
+ghost use Prim.Native.Nat.{_*_, _/_, _%_, _^_, _<_};
+ghost use lib.ListN.{getD};
+ghost use Rattle.control.specs.Control.{pixelBits};
+ghost use Rattle.memory.specs.Memory.{endsBeyond, pixelShown};
+
+// Pixels in a byte: a power of two, so that the compiler divides by a shift.
+fn per_byte(control: u32) -> u64
+    ensures whole { λ r. ⌜ r * pixelBits control ≡ 8 ⌝ }
+{
+    let depth = control::depth_code(control);
+    1u64 << (3 - depth)
+}
+
+// A byte of the memory; past its end 0.
+fn byte_at(memory: &[u8], index: u64) -> u8
+    ensures byte { λ r. ⌜ r ≡ getD (now (memory .entry)) index 0 ⌝ }
+{
+    if index < memory.len() as u64 {
+        memory[index as usize]
+    } else {
+        0
+    }
+}
+
+// One pixel out of a byte, by its number there, lowest bits first.
+fn picked(byte: u8, number: u32, depth: u32) -> u8
+    requires { ⌜ (number < 8) × (depth < 4) ⌝ }
+    ensures pixel { λ r. ⌜ r ≡ byte / 2 ^ (number * 2 ^ depth) % 2 ^ (2 ^ depth) ⌝ }
+{
+    let bits = 1u64 << depth;
+    let above = byte as u64 >> (number as u64 * bits);
+    (above % (1u64 << bits)) as u8
+}
+
+// The pixel at a place; past the memory 0, and with transfers switched off 0 everywhere.
+pub fn pixel_shown(control: u32, memory: &[u8], place: u64) -> u8
+    ensures pixel { λ r. ⌜ r ≡ pixelShown control (now (memory .entry)) place ⌝ }
+{
+    let on = control::is_transferring(control);
+    if on {
+        let per = per_byte(control);
+        let byte = byte_at(memory, place / per);
+        // a loop over places is then made twice, once without the shifts
+        if per == 1 {
+            return byte;
+        }
+        picked(byte, (place % per) as u32, control::depth_code(control))
+    } else {
+        0
+    }
+}
+
+// Refusal 20: the pixel at a place ends beyond the memory.
+pub fn ends_beyond(control: u32, memory: &[u8], place: u64) -> bool
+    ensures refusal { λ r. ⌜ r ≡ endsBeyond (pixelBits control) (now (memory .entry)) place ⌝ }
+{
+    let per = per_byte(control);
+    memory.len() as u64 <= place / per
+}
