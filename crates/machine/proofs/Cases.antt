@@ -12,9 +12,9 @@ use Rattle.base.specs.Count.{run}
 use Rattle.base.proofs.Table.{entry}
 use Rattle.base.proofs.Run.{run-entry}
 use Rattle.control.specs.Control.{running}
-use Rattle.registers.specs.Map.{placeOf, isControl}
+use Rattle.map.specs.Map.{placeOf, isControl}
 use Rattle.registers.specs.File.{storeIn}
-use Rattle.registers.specs.declared.Place.{Place}
+use Rattle.map.specs.declared.Place.{Place}
 use Rattle.registers.specs.declared.Registers.{Registers}
 use Rattle.pixel.specs.declared.Sums.{Sums}
 use Rattle.generator.specs.Tick.{fresh}

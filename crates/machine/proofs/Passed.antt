@@ -4,8 +4,8 @@ use mathlib.Core.Bool.{Bool, true, false, cond, _&&_, _||_, true≢false}
 use mathlib.Core.Path.{_≡_, refl}
 use native.Mathlib.Omega.{arith}
 use borrow.Author.Tests.{ltb-false, le-ltb}
-use Rattle.registers.specs.Map.{widest}
-use Rattle.registers.specs.declared.Place.{Place}
+use Rattle.map.specs.Map.{widest}
+use Rattle.map.specs.declared.Place.{Place}
 use Rattle.registers.specs.declared.Registers.{Registers}
 use Rattle.machine.specs.Rules.{writeRefuses2, writeRefuses1, refuses3, writeRefuses4, startLimit, writeRefusal}
 

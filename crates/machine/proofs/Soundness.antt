@@ -9,11 +9,12 @@ use Rattle.control.specs.Control.{running, outside}
 use Rattle.units.specs.Parameters.{screenOf}
 use Rattle.screen.specs.Limits.{Accepted, limitOf}
 use Rattle.screen.proofs.Laws as limits
-use Rattle.registers.specs.Map.{placeOf, isControl, isParameter}
+use Rattle.map.specs.Map.{placeOf, isControl, isParameter}
 use Rattle.registers.specs.File.{zeros, storeIn}
-use Rattle.registers.specs.declared.Place.{Place}
+use Rattle.map.specs.declared.Place.{Place}
 use Rattle.registers.specs.declared.Registers.{Registers}
-use Rattle.registers.proofs.Laws.{control-open, control-stored, control-kept, params-kept, zeros-held, stored-held}
+use Rattle.map.proofs.Laws.{control-open}
+use Rattle.registers.proofs.Laws.{control-stored, control-kept, params-kept, zeros-held, stored-held}
 use Rattle.generator.specs.Rows.{screen}
 use Rattle.generator.specs.Tick.{fresh}
 use Rattle.generator.specs.Sound.{Sound, Placed}

@@ -8,11 +8,12 @@ use lib.Dec.{eqb}
 use borrow.Author.Tests.{ne-eqb, eq-eqb, eqb-true}
 use Rattle.control.specs.Control.{running, outside}
 use Rattle.screen.specs.Limits.{limitOf}
-use Rattle.registers.specs.Map.{placeOf, isChecksum, isReserved}
+use Rattle.map.specs.Map.{placeOf, isChecksum, isReserved}
 use Rattle.registers.specs.File.{valueIn, storeIn}
-use Rattle.registers.specs.declared.Place.the-variants.{Control}
+use Rattle.map.specs.declared.Place.the-variants.{Control}
 use Rattle.registers.specs.declared.Registers.{Registers}
-use Rattle.registers.proofs.Laws.{address-single, kept, back}
+use Rattle.map.proofs.Laws.{address-single}
+use Rattle.registers.proofs.Laws.{kept, back}
 use Rattle.generator.specs.Rows.{screen}
 use Rattle.generator.specs.Tick.{fresh, tickRefusal, tickOf, silent}
 use Rattle.generator.specs.declared.Generator.{Generator}

@@ -8,9 +8,9 @@ use lib.ListN.{getD}
 use Rattle.base.specs.Count.{run}
 use Rattle.control.specs.Control.{running, outside}
 use Rattle.screen.specs.Limits.{limitOf}
-use Rattle.registers.specs.Map.{placeOf, numberOf, isParameter, isControl, isChecksum, isReserved, widest}
+use Rattle.map.specs.Map.{placeOf, numberOf, isParameter, isControl, isChecksum, isReserved, widest}
 use Rattle.registers.specs.File.{zeros, valueIn, storeIn}
-use Rattle.registers.specs.declared.Place.{Place}
+use Rattle.map.specs.declared.Place.{Place}
 use Rattle.registers.specs.declared.Registers.{Registers}
 use Rattle.colour.specs.Colour.{colourOf}
 use Rattle.pixel.specs.declared.Sums.{Sums}

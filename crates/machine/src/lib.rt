@@ -5,8 +5,8 @@ ghost use Rattle.generator.specs.Sound.{Sound};
 ghost use Rattle.machine.specs.Rules.{beginning, startLimit, writeRefusal, stored, written, readRefusal, checksumWords, valueAt, answered, advanced};
 use generator::Generator;
 use generator::Signals;
+use map::Place;
 use pixel::Sums;
-use registers::Place;
 use registers::Registers;
 
 pub struct Machine {
@@ -43,7 +43,7 @@ fn start_limit(r: Registers, p: Place, value: u32) -> u32
 {
     let params = r.params;
     let s = units::screen_of(params);
-    let checked = registers::is_control(p) & control::is_running(value);
+    let checked = map::is_control(p) & control::is_running(value);
     base::first(checked, screen::limit(value, s), 0)
 }
 
@@ -51,10 +51,10 @@ fn start_limit(r: Registers, p: Place, value: u32) -> u32
 fn write_refusal(r: Registers, p: Place, value: u32) -> u32
     ensures refusal { λ n. ⌜ n ≡ writeRefusal r p value ⌝ }
 {
-    let closed = registers::is_reserved(p) | registers::is_checksum(p);
-    let wide = registers::widest(p) < value;
-    let busy = registers::is_parameter(p) & control::is_running(r.control);
-    let unknown = registers::is_control(p) & control::is_outside(value);
+    let closed = map::is_reserved(p) | map::is_checksum(p);
+    let wide = map::widest(p) < value;
+    let busy = map::is_parameter(p) & control::is_running(r.control);
+    let unknown = map::is_control(p) & control::is_outside(value);
     let n4 = base::first(unknown, 4, start_limit(r, p, value));
     let n3 = base::first(busy, 3, n4);
     let n1 = base::first(wide, 1, n3);
@@ -68,11 +68,11 @@ fn read_refusal(m: Machine, p: Place) -> u32
 {
     let regs = m.regs;
     let generator = m.generator;
-    let busy = registers::is_parameter(p) & control::is_running(regs.control);
-    let shown = registers::is_checksum(p) & generator::is_displaying(regs, generator);
+    let busy = map::is_parameter(p) & control::is_running(regs.control);
+    let shown = map::is_checksum(p) & generator::is_displaying(regs, generator);
     let n5 = base::first(shown, 5, 0);
     let n3 = base::first(busy, 3, n5);
-    base::first(registers::is_reserved(p), 2, n3)
+    base::first(map::is_reserved(p), 2, n3)
 }
 
 // Checksum word k: byte k of each sum, red leftmost; past the third there is none.
@@ -96,8 +96,8 @@ fn value_at(m: Machine, p: Place) -> u32
 {
     let regs = m.regs;
     let sums = m.generator.sums;
-    let word = checksum_word(registers::number_of(p), sums);
-    base::first(registers::is_checksum(p), word, regs.value(p))
+    let word = checksum_word(map::number_of(p), sums);
+    base::first(map::is_checksum(p), word, regs.value(p))
 }
 
 impl Machine {
@@ -115,7 +115,7 @@ impl Machine {
         ensures machine { λ m. ⌜ m ≡ stored self p value ⌝ }
     {
         let old = self.regs;
-        let starting = registers::is_control(p)
+        let starting = map::is_control(p)
             & control::is_running(value)
             & !control::is_running(old.control);
         let regs = old.stored(p, value);
@@ -131,7 +131,7 @@ impl Machine {
     pub fn write(self, address: u32, value: u32) -> Written
         ensures written { λ w. ⌜ w ≡ written self address value ⌝ }
     {
-        let p = registers::place_of(address);
+        let p = map::place_of(address);
         let regs = self.regs;
         let refusal = write_refusal(regs, p, value);
         if refusal == 0 {
@@ -149,7 +149,7 @@ impl Machine {
         requires { ⌜ Sound (self .regs) (self .generator) ⌝ }
         ensures answered { λ a. ⌜ a ≡ answered self address ⌝ }
     {
-        let p = registers::place_of(address);
+        let p = map::place_of(address);
         let refusal = read_refusal(self, p);
         if refusal == 0 {
             return Answered {

@@ -1,4 +1,4 @@
--- What callers know of the map and of a store, for every place. Assumes nothing.
+-- What callers know of a store, for every place. Assumes nothing.
 use Prim.Native.Nat.{ℕ, _≤_, _<_}
 use mathlib.Core.Path.{_≡_, refl, sym, ap, subst, _∙_}
 use mathlib.Core.Bool.{true, false, true≢false}
@@ -8,23 +8,14 @@ use native.Mathlib.Omega.{arith}
 use lib.ListN.{length, getD, set, length-set, length-replicate}
 use lib.Seq.{getD-set-same, getD-set-other}
 use borrow.Author.Tests.{eqb-true, eqb-false}
-use Rattle.registers.specs.declared.Place.{Place}
-use Rattle.registers.specs.declared.Place.the-variants.{Reserved, Screen, Mask, Control, Top, Colour, Checksum, Position, Palette, Store}
+use Rattle.map.specs.declared.Place.{Place}
+use Rattle.map.specs.declared.Place.the-variants.{Reserved, Screen, Mask, Control, Top, Colour, Checksum, Position, Palette, Store}
 use Rattle.registers.specs.declared.Registers.{Registers}
-use Rattle.registers.specs.Map.{placeOf, rowOf, numberOf, isParameter, isControl, isChecksum, isStore, isReserved, widest, Storable}
+use Rattle.map.specs.Map.{placeOf, rowOf, numberOf, isParameter, isControl, isChecksum, isStore, isReserved, widest, Storable}
 use Rattle.registers.specs.File.{zeros, rows, rowIn, valueIn, keptAt, storeIn, Held}
-use Rattle.registers.proofs.Cases.{placed, equal, apart, Found, found, set-row, set-bound, zero-at, fitted, rows-stored}
-
--- no two addresses of the map have one place
-pub address-single : (a b : ℕ) → placeOf a ≡ placeOf b → isReserved (placeOf a) ≡ false → a ≡ b
-address-single a b e t = cc (found a t .address, found b (ap isReserved (sym e) ∙ t) .address)
-
--- control A is one place, and no parameter
-pub is-control : (p : Place) → isControl p ≡ true → p ≡ Control
-is-control p e = let i = eqb-true (rowOf p) 2 e in cc (placed p)
-
-pub control-open : (p : Place) → isControl p ≡ true → isParameter p ≡ false
-control-open p e = ap isParameter (is-control p e)
+use Rattle.map.proofs.Cases.{equal, apart, Found, found}
+use Rattle.map.proofs.Laws.{is-control}
+use Rattle.registers.proofs.Cases.{set-row, set-bound, zero-at, fitted, rows-stored}
 
 module _ (r : Registers) (p : Place) (v : ℕ) where
   -- the place's own row has the value, and every other row stands

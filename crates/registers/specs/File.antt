@@ -4,9 +4,9 @@ use mathlib.Core.Path.{_≡_}
 use mathlib.Core.Bool.{cond}
 use mathlib.Core.List.{List, [], _∷_}
 use lib.ListN.{length, getD, set, replicate}
-use Rattle.registers.specs.declared.Place.{Place}
+use Rattle.map.specs.declared.Place.{Place}
 use Rattle.registers.specs.declared.Registers.{Registers}
-use Rattle.registers.specs.Map.{rowOf, numberOf, isStore}
+use Rattle.map.specs.Map.{rowOf, numberOf, isStore}
 
 -- all registers begin at 0
 unfoldable pub zeros : Registers

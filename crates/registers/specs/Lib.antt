@@ -1,3 +1,2 @@
--- The register map, and the register file by value.
-pub mod Map
+-- The register file by value.
 pub mod File

@@ -1,30 +1,8 @@
-// The register file (01, "Register map"): what stands at each word address, and the registers by value.
-mod map;
-
-pub use map::is_checksum;
-pub use map::is_control;
-pub use map::is_parameter;
-pub use map::is_reserved;
-pub use map::number_of;
-pub use map::place_of;
-pub use map::widest;
+// The register file (01, "Register map"): the registers by value.
 ghost use mathlib.Core.Path.{_≡_};
 ghost use Rattle.registers.specs.File.{zeros, valueIn, storeIn};
-ghost use Rattle.registers.specs.declared.Place.the-variants.{Screen, Colour, Palette, Store};
-
-// What stands at an address, with its number in its row of the map.
-pub enum Place {
-    Reserved,
-    Screen(u32),
-    Mask,
-    Control,
-    Top,
-    Colour(u32),
-    Checksum(u32),
-    Position,
-    Palette(u32),
-    Store(u32),
-}
+ghost use Rattle.map.specs.declared.Place.the-variants.{Screen, Colour, Palette, Store};
+use map::Place;
 
 #[repr(C)]
 pub struct Registers {

@@ -4,7 +4,7 @@ use Rattle.base.specs.Count
 use Rattle.units.specs.Parameters
 use Rattle.screen.specs.Limits
 use Rattle.screen.specs.Totals
-use Rattle.registers.specs.Map
+use Rattle.map.specs.Map
 use Rattle.registers.specs.File
 use Rattle.memory.specs.Memory
 use Rattle.colour.specs.Colour

@@ -1,7 +1,7 @@
 -- `registers::Registers::with_parameter` meets its contract: past the last parameter nothing is stored. Assumes nothing.
 use mathlib.Core.Path.{refl}
 use borrow.Author.Needs.{needs}
-use Rattle.registers.specs.declared.Place.the-variants.{Screen}
+use Rattle.map.specs.declared.Place.the-variants.{Screen}
 use Rattle.registers.specs.File.{storeIn}
 use Rattle.registers.proofs.Cases.{stored-past}
 use Rattle.registers.proofs.Registers.with_parameter.Statement.{statement}

@@ -1,7 +1,7 @@
 -- `registers::is_checksum` meets its contract: the row is that of the checksums. Assumes nothing.
 use borrow.Author.Needs.{needs}
-use Rattle.registers.proofs.map.is_checksum.Statement.{statement}
-use Rattle.registers.proofs.map.is_checksum.Tie as tie
+use Rattle.map.proofs.is_checksum.Statement.{statement}
+use Rattle.map.proofs.is_checksum.Tie as tie
 
 pub is-checksum-spec : {M : Type 1} → statement M
 is-checksum-spec =

@@ -1,7 +1,7 @@
 -- `registers::is_parameter` meets its contract: the row is that of the parameters. Assumes nothing.
 use borrow.Author.Needs.{needs}
-use Rattle.registers.proofs.map.is_parameter.Statement.{statement}
-use Rattle.registers.proofs.map.is_parameter.Tie as tie
+use Rattle.map.proofs.is_parameter.Statement.{statement}
+use Rattle.map.proofs.is_parameter.Tie as tie
 
 pub is-parameter-spec : {M : Type 1} → statement M
 is-parameter-spec =

@@ -1,6 +1,6 @@
 -- `registers::row` meets its contract: a choice. Assumes nothing.
-use Rattle.registers.proofs.map.row.Statement.{statement}
-use Rattle.registers.proofs.map.row.Tie as tie
+use Rattle.map.proofs.row.Statement.{statement}
+use Rattle.map.proofs.row.Tie as tie
 
 pub row-spec : {M : Type 1} → statement M
 row-spec =

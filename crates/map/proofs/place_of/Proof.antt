@@ -1,8 +1,8 @@
 -- `registers::place_of` meets its contract: the first four rows of the map, each a choice, and then the others. Assumes nothing.
 use borrow.Author.Needs.{needs}
-use Rattle.registers.specs.Map.{placeOf}
-use Rattle.registers.proofs.map.place_of.Statement.{statement}
-use Rattle.registers.proofs.map.place_of.Tie as tie
+use Rattle.map.specs.Map.{placeOf}
+use Rattle.map.proofs.place_of.Statement.{statement}
+use Rattle.map.proofs.place_of.Tie as tie
 
 pub place-of-spec : {M : Type 1} → statement M
 unfolding placeOf

@@ -1,7 +1,7 @@
 -- `registers::is_control` meets its contract: the row is that of control A. Assumes nothing.
 use borrow.Author.Needs.{needs}
-use Rattle.registers.proofs.map.is_control.Statement.{statement}
-use Rattle.registers.proofs.map.is_control.Tie as tie
+use Rattle.map.proofs.is_control.Statement.{statement}
+use Rattle.map.proofs.is_control.Tie as tie
 
 pub is-control-spec : {M : Type 1} → statement M
 is-control-spec =

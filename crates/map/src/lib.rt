@@ -3,9 +3,22 @@ ghost use mathlib.Core.Path.{_≡_};
 ghost use mathlib.Core.Bool.{cond, _&&_};
 ghost use lib.Dec.{leb};
 ghost use lib.ListN.{drop};
-ghost use Rattle.registers.specs.Map.{registerMap, placeIn, placeOf, rowOf, numberOf, isParameter, isControl, isChecksum, isReserved, widest};
-use crate::Place;
+ghost use Rattle.map.specs.Map.{registerMap, placeIn, placeOf, rowOf, numberOf, isParameter, isControl, isChecksum, isReserved, widest};
 use base::less;
+
+// What stands at an address, with its number in its row of the map.
+pub enum Place {
+    Reserved,
+    Screen(u32),
+    Mask,
+    Control,
+    Top,
+    Colour(u32),
+    Checksum(u32),
+    Position,
+    Palette(u32),
+    Store(u32),
+}
 
 // A row of the map, and the rows after it.
 fn row(a: u32, first: u32, last: u32, place: Place, later: Place) -> Place

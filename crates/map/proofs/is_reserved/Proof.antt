@@ -1,7 +1,7 @@
 -- `registers::is_reserved` meets its contract: the row is that of no row. Assumes nothing.
 use borrow.Author.Needs.{needs}
-use Rattle.registers.proofs.map.is_reserved.Statement.{statement}
-use Rattle.registers.proofs.map.is_reserved.Tie as tie
+use Rattle.map.proofs.is_reserved.Statement.{statement}
+use Rattle.map.proofs.is_reserved.Tie as tie
 
 pub is-reserved-spec : {M : Type 1} → statement M
 is-reserved-spec =

@@ -1,7 +1,7 @@
 -- `registers::high_place_of` meets its contract: the last five rows of the map, each a choice. Assumes nothing.
 use borrow.Author.Needs.{needs}
-use Rattle.registers.proofs.map.high_place_of.Statement.{statement}
-use Rattle.registers.proofs.map.high_place_of.Tie as tie
+use Rattle.map.proofs.high_place_of.Statement.{statement}
+use Rattle.map.proofs.high_place_of.Tie as tie
 
 pub high-place-of-spec : {M : Type 1} → statement M
 high-place-of-spec =

@@ -1,7 +1,7 @@
 -- `registers::widest` meets its contract: the choice of `base`, by the row. Assumes nothing.
 use borrow.Author.Needs.{needs}
-use Rattle.registers.proofs.map.widest.Statement.{statement}
-use Rattle.registers.proofs.map.widest.Tie as tie
+use Rattle.map.proofs.widest.Statement.{statement}
+use Rattle.map.proofs.widest.Tie as tie
 
 pub widest-spec : {M : Type 1} → statement M
 widest-spec =

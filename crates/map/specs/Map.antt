@@ -3,8 +3,8 @@ use Prim.Native.Nat.{ℕ, _-_, _≤_}
 use mathlib.Core.Bool.{Bool, cond, _&&_}
 use mathlib.Core.List.{List, [], _∷_}
 use lib.Dec.{leb, eqb}
-use Rattle.registers.specs.declared.Place.{Place}
-use Rattle.registers.specs.declared.Place.the-variants.{Reserved, Screen, Mask, Control, Top, Colour, Checksum, Position, Palette, Store}
+use Rattle.map.specs.declared.Place.{Place}
+use Rattle.map.specs.declared.Place.the-variants.{Reserved, Screen, Mask, Control, Top, Colour, Checksum, Position, Palette, Store}
 
 -- a row of the map: its first and its last address, and what stands at each, numbered from 0
 pub record Row : Type 0 where

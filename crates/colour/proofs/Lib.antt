@@ -1,0 +1,3 @@
+-- Laws that callers of `colour` use, and laws of its own proofs.
+pub mod Laws
+pub mod Cases

@@ -1,0 +1,3 @@
+-- Laws of the map that callers use, and what they rest on.
+pub mod Laws
+pub mod Cases

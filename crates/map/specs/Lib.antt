@@ -1,0 +1,2 @@
+-- The register map: what stands at each word address, and the rules of each place.
+pub mod Map
