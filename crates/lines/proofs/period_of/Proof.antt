@@ -11,4 +11,4 @@ period-of-spec =
     (λ c κs. search needs)
     (λ c κs. search needs)
     (λ c κs. search needs)
-    (λ c. cc))
+    (λ c. rw (c .in-period4 .ensures, c .before .in-period3 .ensures, c .before .before .in-period2 .ensures, c .before .before .before .in-period .ensures)))

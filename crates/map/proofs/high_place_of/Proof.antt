@@ -16,4 +16,4 @@ high-place-of-spec =
     (λ c κs. search needs)
     (λ c κs. search needs)
     (λ c κs. search needs)
-    (λ c. cc))
+    (λ c. rw (c .row5 .ensures, c .before .less4 .ensures, c .before .before .row4 .ensures, c .before .before .before .less3 .ensures, c .before .before .before .before .row3 .ensures, c .before .before .before .before .before .row2 .ensures, c .before .before .before .before .before .before .less2 .ensures, c .before .before .before .before .before .before .before .row .ensures, c .before .before .before .before .before .before .before .before .less .ensures)))

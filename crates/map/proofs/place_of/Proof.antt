@@ -15,4 +15,4 @@ place-of-spec =
     (λ c κs. search needs)
     (λ c κs. search needs)
     (λ c κs. search needs)
-    (λ c. cc))
+    (λ c. rw (c .row4 .ensures, c .before .less .ensures, c .before .before .row3 .ensures, c .before .before .before .row2 .ensures, c .before .before .before .before .row .ensures, c .before .before .before .before .before .high-place-of .ensures)))

@@ -19,4 +19,4 @@ nine-spec =
     (λ c κs. search needs)
     (λ c κs. search needs)
     (λ c κs. search needs)
-    (λ c. cc))
+    (λ c. rw (c .blue3 .ensures, c .before .green3 .ensures, c .before .before .red3 .ensures, c .before .before .before .blue2 .ensures, c .before .before .before .before .green2 .ensures, c .before .before .before .before .before .red2 .ensures, c .before .before .before .before .before .before .blue .ensures, c .before .before .before .before .before .before .before .green .ensures, c .before .before .before .before .before .before .before .before .red .ensures)))

@@ -16,4 +16,4 @@ added-spec =
     (λ c κs. search needs)
     (λ c κs. search needs)
     (λ c κs. search needs)
-    (λ c. cc))
+    (λ c. rw (c .rolled-sum3 .ensures, c .before .rolled-sum2 .ensures, c .before .before .rolled-sum .ensures, c .before .before .before .wide3 .ensures .0, c .before .before .before .before .blue-byte .ensures, c .before .before .before .before .before .wide2 .ensures .0, c .before .before .before .before .before .before .green-byte .ensures, c .before .before .before .before .before .before .before .wide .ensures .0, c .before .before .before .before .before .before .before .before .red-byte .ensures)))

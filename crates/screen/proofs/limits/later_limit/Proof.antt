@@ -23,4 +23,4 @@ later-limit-spec =
     (λ c κs. search needs)
     (λ c κs. search needs)
     (λ c κs. search needs)
-    (λ c. cc))
+    (λ c. rw (c .first7 .ensures, c .before .refuses-11 .ensures, c .before .before .first6 .ensures, c .before .before .before .refuses-12 .ensures, c .before .before .before .before .first5 .ensures, c .before .before .before .before .before .refuses-13 .ensures, c .before .before .before .before .before .before .first4 .ensures, c .before .before .before .before .before .before .before .refuses-14 .ensures, c .before .before .before .before .before .before .before .before .first3 .ensures, c .before .before .before .before .before .before .before .before .before .refuses-15 .ensures, c .before .before .before .before .before .before .before .before .before .before .first2 .ensures, c .before .before .before .before .before .before .before .before .before .before .before .refuses-16 .ensures, c .before .before .before .before .before .before .before .before .before .before .before .before .first .ensures, c .before .before .before .before .before .before .before .before .before .before .before .before .before .refuses-17 .ensures)))

@@ -20,4 +20,4 @@ refuses-10-spec =
     (λ c κs. search needs)
     (λ c κs. search needs)
     (λ c κs. search needs)
-    (λ c. cc))
+    (λ c. rw (c .is-out-of-range13 .ensures, c .before .is-out-of-range12 .ensures, c .before .before .is-out-of-range11 .ensures, c .before .before .before .is-out-of-range10 .ensures, c .before .before .before .before .is-out-of-range9 .ensures, c .before .before .before .before .before .is-out-of-range8 .ensures, c .before .before .before .before .before .before .is-out-of-range7 .ensures, c .before .before .before .before .before .before .before .is-out-of-range6 .ensures, c .before .before .before .before .before .before .before .before .is-out-of-range5 .ensures, c .before .before .before .before .before .before .before .before .before .is-out-of-range4 .ensures, c .before .before .before .before .before .before .before .before .before .before .is-out-of-range3 .ensures, c .before .before .before .before .before .before .before .before .before .before .before .is-out-of-range2 .ensures, c .before .before .before .before .before .before .before .before .before .before .before .before .is-out-of-range .ensures)))
