@@ -36,11 +36,10 @@ sheet-refusal-spec =
     (λ c. search needs)
     (λ c.
     let loop = c .before .before .before .before .before .loop in
-    (omega arith, judged _ (loop .i) (loop .refusal) _ (omega arith) (loop .inv .1) (c .first .result) (cc)))
+    (omega arith, judged _ (loop .i) (loop .refusal) _ (omega arith) (loop .inv .1) (c .first .result) (rw (c .first .ensures, c .before .field-refusal .ensures, c .before .before .left-from .ensures, c .before .before .before .wide .ensures .0))))
     (λ c κs. search needs)
     (λ c κs. search needs)
     (λ c κs. search needs)
     (λ c.
     let loop = c .before .before .before .before .loop in
-    let all = judged-all _ (loop .i) (loop .refusal) _ (omega arith) (loop .inv .1) in
-    cc))
+    rw (c .first3 .ensures, c .before .first2 .ensures, c .before .before .left-from2 .ensures) (judged-all _ (loop .i) (loop .refusal) _ (omega arith) (loop .inv .1))))

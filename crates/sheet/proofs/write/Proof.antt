@@ -21,7 +21,7 @@ abbrev μ-loop : tie.MeasureT-loop
 
 -- what was answered, and that nothing was refused where the loop begins
 asked : (c : tie.After-first2 Inv-loop μ-loop) → c .first2 .result ≡ writeRefusal (c .before .before .before .before .args .t1) (c .before .before .before .before .args .room .now)
-asked c = cc
+asked c = rw (c .first2 .ensures, c .before .first .ensures, c .before .before .is-over .ensures)
 
 accepted : (c : tie.Then1 Inv-loop μ-loop) → writeRefusal (c .before .before .before .before .before .args .t1) (c .before .before .before .before .before .args .room .now) ≡ 0
 accepted c = sym (asked (c .before)) ∙ c .if1 .taken
