@@ -1,4 +1,4 @@
--- `pixel::colour::entry` meets its contract. A byte ANDed with another is no larger. Assumes nothing.
+-- `colour::entry` meets its contract. A byte ANDed with another is no larger. Assumes nothing.
 use native.Mathlib.Omega.{arith}
 use borrow.Author.Needs.{needs}
 use lib.Bits.{and-le-l}

@@ -1,4 +1,4 @@
--- `pixel::colour::masked_colour` meets its contract: an entry for each channel, and its byte. Assumes nothing.
+-- `colour::masked_colour` meets its contract: an entry for each channel, and its byte. Assumes nothing.
 use borrow.Author.Needs.{needs}
 use Rattle.colour.specs.Colour.{maskedColour}
 use Rattle.colour.proofs.masked_colour.Statement.{statement}

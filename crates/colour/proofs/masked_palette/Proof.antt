@@ -1,4 +1,4 @@
--- `pixel::colour::masked_palette` meets its contract. The invariant: each entry before `pixel` is that pixel's colour. Assumes nothing.
+-- `colour::masked_palette` meets its contract. The invariant: each entry before `pixel` is that pixel's colour. Assumes nothing.
 use Prim.Native.Nat.{ℕ, _-_, _≤_, _<_}
 use mathlib.Core.Path.{_≡_, refl, _∙_}
 use native.Mathlib.Omega.{arith}

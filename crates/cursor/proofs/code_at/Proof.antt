@@ -1,4 +1,4 @@
--- `pixel::cursor::code_at` meets its contract: a shift by two bits a column. Assumes nothing.
+-- `cursor::code_at` meets its contract: a shift by two bits a column. Assumes nothing.
 use Rattle.cursor.proofs.Cases.{four-power}
 use borrow.Author.Needs.{needs}
 use Rattle.cursor.proofs.code_at.Statement.{statement}

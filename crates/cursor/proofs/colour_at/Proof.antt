@@ -1,4 +1,4 @@
--- `pixel::cursor::colour_at` meets its contract: past three entries there is 0. Assumes nothing.
+-- `cursor::colour_at` meets its contract: past three entries there is 0. Assumes nothing.
 use mathlib.Core.Path.{_≡_, sym}
 use native.Mathlib.Omega.{arith}
 use borrow.Author.Needs.{needs}

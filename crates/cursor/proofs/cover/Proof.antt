@@ -1,4 +1,4 @@
--- `pixel::cursor::cover` meets its contract: code k is colour k, which stands at k - 1. Assumes nothing.
+-- `cursor::cover` meets its contract: code k is colour k, which stands at k - 1. Assumes nothing.
 use mathlib.Core.Path.{sym, _∙_}
 use native.Mathlib.Omega.{arith}
 use borrow.Author.Needs.{needs}

@@ -1,4 +1,4 @@
--- `pixel::cursor::cursor_code` meets its contract: a row and a column within the cursor, or outside by one of the two. Assumes nothing.
+-- `cursor::cursor_code` meets its contract: a row and a column within the cursor, or outside by one of the two. Assumes nothing.
 use Rattle.cursor.proofs.Cases.{code-under, code-beside, code-above}
 use borrow.Author.Needs.{needs}
 use Rattle.cursor.proofs.cursor_code.Statement.{statement}

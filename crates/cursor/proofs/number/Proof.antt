@@ -1,4 +1,4 @@
--- `pixel::cursor::number` meets its contract: each return goes by the sign of what the machine reads back. Assumes nothing.
+-- `cursor::number` meets its contract: each return goes by the sign of what the machine reads back. Assumes nothing.
 use mathlib.Core.Path.{_≡_, sym, ap, subst, _∙_}
 use native.Mathlib.Omega.{arith}
 use lib.IntN.{ℤ, pos, _-ℤ_, natAbs}

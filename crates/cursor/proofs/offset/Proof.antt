@@ -1,4 +1,4 @@
--- `pixel::cursor::offset` meets its contract: a difference of two small numbers fits 64 bits. Assumes nothing.
+-- `cursor::offset` meets its contract: a difference of two small numbers fits 64 bits. Assumes nothing.
 use mathlib.Core.Path.{_≡_, sym, subst, _∙_}
 use native.Mathlib.Omega.{arith}
 use lib.IntN.{pos, _-ℤ_}

@@ -1,4 +1,4 @@
--- `pixel::cursor::signed_field` meets its contract: what the machine reads back from 64 bits is the signed number. Assumes nothing.
+-- `cursor::signed_field` meets its contract: what the machine reads back from 64 bits is the signed number. Assumes nothing.
 use Prim.Native.Nat.{ℕ, _%_}
 use mathlib.Core.Path.{_≡_, sym, ap, subst, _∙_}
 use native.Mathlib.Omega.{arith}

@@ -1,4 +1,4 @@
--- `registers::high_place_of` meets its contract: the last five rows of the map, each a choice. Assumes nothing.
+-- `map::high_place_of` meets its contract: the last five rows of the map, each a choice. Assumes nothing.
 use borrow.Author.Needs.{needs}
 use Rattle.map.proofs.high_place_of.Statement.{statement}
 use Rattle.map.proofs.high_place_of.Tie as tie

@@ -1,4 +1,4 @@
--- `registers::is_checksum` meets its contract: the row is that of the checksums. Assumes nothing.
+-- `map::is_checksum` meets its contract: the row is that of the checksums. Assumes nothing.
 use borrow.Author.Needs.{needs}
 use Rattle.map.proofs.is_checksum.Statement.{statement}
 use Rattle.map.proofs.is_checksum.Tie as tie

@@ -1,4 +1,4 @@
--- `registers::is_control` meets its contract: the row is that of control A. Assumes nothing.
+-- `map::is_control` meets its contract: the row is that of control A. Assumes nothing.
 use borrow.Author.Needs.{needs}
 use Rattle.map.proofs.is_control.Statement.{statement}
 use Rattle.map.proofs.is_control.Tie as tie

@@ -1,4 +1,4 @@
--- `registers::is_parameter` meets its contract: the row is that of the parameters. Assumes nothing.
+-- `map::is_parameter` meets its contract: the row is that of the parameters. Assumes nothing.
 use borrow.Author.Needs.{needs}
 use Rattle.map.proofs.is_parameter.Statement.{statement}
 use Rattle.map.proofs.is_parameter.Tie as tie

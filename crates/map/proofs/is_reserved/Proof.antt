@@ -1,4 +1,4 @@
--- `registers::is_reserved` meets its contract: the row is that of no row. Assumes nothing.
+-- `map::is_reserved` meets its contract: the row is that of no row. Assumes nothing.
 use borrow.Author.Needs.{needs}
 use Rattle.map.proofs.is_reserved.Statement.{statement}
 use Rattle.map.proofs.is_reserved.Tie as tie

@@ -1,4 +1,4 @@
--- `registers::place_of` meets its contract: the first four rows of the map, each a choice, and then the others. Assumes nothing.
+-- `map::place_of` meets its contract: the first four rows of the map, each a choice, and then the others. Assumes nothing.
 use borrow.Author.Needs.{needs}
 use Rattle.map.specs.Map.{placeOf}
 use Rattle.map.proofs.place_of.Statement.{statement}

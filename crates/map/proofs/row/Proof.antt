@@ -1,4 +1,4 @@
--- `registers::row` meets its contract: a choice. Assumes nothing.
+-- `map::row` meets its contract: a choice. Assumes nothing.
 use Rattle.map.proofs.row.Statement.{statement}
 use Rattle.map.proofs.row.Tie as tie
 

@@ -1,4 +1,4 @@
--- `registers::widest` meets its contract: the choice of `base`, by the row. Assumes nothing.
+-- `map::widest` meets its contract: the choice of `base`, by the row. Assumes nothing.
 use borrow.Author.Needs.{needs}
 use Rattle.map.proofs.widest.Statement.{statement}
 use Rattle.map.proofs.widest.Tie as tie

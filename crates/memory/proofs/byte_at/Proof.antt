@@ -1,4 +1,4 @@
--- `pixel::memory::byte_at` meets its contract: past the end there is 0. Assumes nothing.
+-- `memory::byte_at` meets its contract: past the end there is 0. Assumes nothing.
 use mathlib.Core.Path.{sym}
 use lib.ListN.{List·getD-eq-default}
 use borrow.Author.Needs.{needs}

@@ -1,4 +1,4 @@
--- `pixel::memory::ends_beyond` meets its contract: a pixel ends beyond the memory exactly when its byte does. Assumes nothing.
+-- `memory::ends_beyond` meets its contract: a pixel ends beyond the memory exactly when its byte does. Assumes nothing.
 use Rattle.memory.proofs.Bytes.{per-positive, byte-beyond}
 use borrow.Author.Needs.{needs}
 use Rattle.memory.proofs.ends_beyond.Statement.{statement}

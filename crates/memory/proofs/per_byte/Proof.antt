@@ -1,4 +1,4 @@
--- `pixel::memory::per_byte` meets its contract: 2^(3 - depth) pixels of 2^depth bits are 2^3 bits. Assumes nothing.
+-- `memory::per_byte` meets its contract: 2^(3 - depth) pixels of 2^depth bits are 2^3 bits. Assumes nothing.
 use Prim.Native.Nat.{ℕ, _+_, _-_, _*_, _%_, _^_, _<_}
 use mathlib.Core.Path.{_≡_}
 use native.Mathlib.Nat.{one-mul}

@@ -1,4 +1,4 @@
--- `pixel::memory::picked` meets its contract. Eight bits at the most are shifted by 56 at the most: nothing is lost. Assumes nothing.
+-- `memory::picked` meets its contract. Eight bits at the most are shifted by 56 at the most: nothing is lost. Assumes nothing.
 use Prim.Native.Nat.{ℕ, _*_, _/_, _%_, _^_, _≤_, _<_}
 use mathlib.Core.Path.{_≡_, _∙_}
 use native.Mathlib.Nat.{one-mul, mul-le-mul, mod-lt}

@@ -1,4 +1,4 @@
--- `pixel::memory::pixel_shown` meets its contract: the pixel is the one of that number in its byte, or the whole byte. Assumes nothing.
+-- `memory::pixel_shown` meets its contract: the pixel is the one of that number in its byte, or the whole byte. Assumes nothing.
 use native.Mathlib.Omega.{arith}
 use mir.Facts.{fits-lt, fits-lit}
 use Rattle.memory.proofs.Bytes.{per-positive, number-small}
