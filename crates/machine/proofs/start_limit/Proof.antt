@@ -14,4 +14,4 @@ start-limit-spec =
     (λ c κs. search needs)
     (λ c κs. search needs)
     (λ c κs. search needs)
-    (λ c. cc))
+    (λ c. rw (c .first .ensures, c .before .limit .ensures, c .before .before .is-running .ensures, c .before .before .before .is-control .ensures, c .before .before .before .before .screen-of .ensures)))

@@ -21,4 +21,4 @@ write-refusal-spec =
     (λ c κs. search needs)
     (λ c κs. search needs)
     (λ c κs. search needs)
-    (λ c. cc))
+    (λ c. rw (c .first4 .ensures, c .before .first3 .ensures, c .before .before .first2 .ensures, c .before .before .before .first .ensures, c .before .before .before .before .start-limit .ensures, c .before .before .before .before .before .is-outside .ensures, c .before .before .before .before .before .before .is-control .ensures, c .before .before .before .before .before .before .before .is-running .ensures, c .before .before .before .before .before .before .before .before .is-parameter .ensures, c .before .before .before .before .before .before .before .before .before .widest .ensures, c .before .before .before .before .before .before .before .before .before .before .is-checksum .ensures, c .before .before .before .before .before .before .before .before .before .before .before .is-reserved .ensures)))

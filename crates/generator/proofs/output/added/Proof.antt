@@ -13,4 +13,4 @@ added-spec =
     (λ c κs. search needs)
     (λ c κs. search needs)
     (λ c κs. search needs)
-    (λ c. cc))
+    (λ c. rw (c .added4 .ensures, c .before .added3 .ensures, c .before .before .added2 .ensures, c .before .before .before .added .ensures)))

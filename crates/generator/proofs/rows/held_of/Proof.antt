@@ -9,4 +9,4 @@ held-of-spec =
     (tie.spec
     (λ c κs. search needs)
     (λ c κs. search needs)
-    (λ c. cc))
+    (λ c. rw (c .first .ensures, c .before .rolled-sum .ensures)))

@@ -9,4 +9,4 @@ beginning-spec =
     (tie.spec
     (λ c κs. search needs)
     (λ c κs. search needs)
-    (λ c. cc))
+    (λ c. rw (c .fresh .ensures, c .before .zeros .ensures)))
