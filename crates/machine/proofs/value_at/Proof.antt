@@ -14,4 +14,4 @@ value-at-spec =
     (λ c κs. search needs)
     (λ c κs. search needs)
     (λ c κs. search needs)
-    (λ c. cc))
+    (λ c. rw (c .first .ensures, c .before .value .ensures, c .before .before .is-checksum .ensures, c .before .before .before .checksum-word .ensures, c .before .before .before .before .number-of .ensures)))

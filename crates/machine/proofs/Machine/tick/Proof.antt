@@ -10,4 +10,4 @@ tick-spec =
     tie.close
     (tie.spec
     (λ c κs. search needs)
-    (λ c. cc))
+    (λ c. rw (c .before .before .tick .ensures)))
