@@ -7,6 +7,12 @@ use machine::Machine;
 use report::Page;
 use says::ANSWERS;
 
+// What a command has found: its refusal or 0, and the place past what it says. Where only a verdict is due it stands over that.
+struct Finding {
+    refusal: u32,
+    end: usize,
+}
+
 // There is nothing to say but a verdict.
 fn is_brief(p: Page, refusal: u32) -> bool {
     (refusal != 0) | (p.form != ANSWERS)
@@ -38,54 +44,64 @@ pub fn shown(p: Page, out: &mut [u8], line: u64, refusal: u32, bytes: &[u8]) -> 
 }
 
 // `read ADDRESS`.
-fn read(p: Page, m: Machine, out: &mut [u8], line: u64, address: u32) -> Page
+fn read(p: Page, m: Machine, out: &mut [u8], address: u32) -> Finding
     requires { ⌜ Sound (m .regs) (m .generator) ⌝ }
 {
     let answer = m.read(address);
-    if is_brief(p, answer.refusal) {
-        return report::verdict(p, out, line, answer.refusal);
-    }
     let value = text::put_hex(out, p.waiting, answer.value);
     let end = room::put(out, value, b"\n");
-    report::turn(p, end)
+    Finding {
+        refusal: answer.refusal,
+        end,
+    }
 }
 
 // `nine`.
-fn nine(p: Page, m: Machine, out: &mut [u8], line: u64) -> Page
+fn nine(p: Page, m: Machine, out: &mut [u8]) -> Finding
     requires { ⌜ Sound (m .regs) (m .generator) ⌝ }
 {
     let sums = acts::nine(m);
     let words = sums.words;
-    if is_brief(p, sums.refusal) {
-        return report::verdict(p, out, line, sums.refusal);
-    }
     let low = text::put_hex(out, p.waiting, words[0]);
-    let middle = says::ticks::put_colour(out, low, words[1]);
-    let high = says::ticks::put_colour(out, middle, words[2]);
+    let middle = phrases::put_colour(out, low, words[1]);
+    let high = phrases::put_colour(out, middle, words[2]);
     let end = room::put(out, high, b"\n");
-    report::turn(p, end)
+    Finding {
+        refusal: sums.refusal,
+        end,
+    }
 }
 
 // `sheet BYTE...`.
-fn sheet(p: Page, c: Command, out: &mut [u8], line: u64) -> Page {
+fn sheet(p: Page, c: Command, out: &mut [u8]) -> Finding {
     let sheet = answers::sheet_of(c);
     let values = sheet.values;
-    if is_brief(p, sheet.refusal) {
-        return report::verdict(p, out, line, sheet.refusal);
-    }
     let ok = room::put(out, p.waiting, b"ok");
     let end = text::put_values(out, ok, &values);
-    report::turn(p, end)
+    Finding {
+        refusal: sheet.refusal,
+        end,
+    }
 }
 
 // `field TAG BYTE...`.
-fn field(p: Page, c: Command, out: &mut [u8], line: u64) -> Page {
+fn field(p: Page, c: Command, out: &mut [u8]) -> Finding {
     let answer = answers::field_of(c);
-    if is_brief(p, answer.refusal) {
-        return report::verdict(p, out, line, answer.refusal);
-    }
     let end = text::put_count(out, p.waiting, b"", answer.value as u64);
-    report::turn(p, end)
+    Finding {
+        refusal: answer.refusal,
+        end,
+    }
+}
+
+// `compare BYTE... / BYTE...`.
+fn compare(p: Page, c: Command, out: &mut [u8]) -> Finding {
+    let comparison = answers::comparison_of(c);
+    let end = room::put_either(out, p.waiting, comparison.equal, b"same\n", b"different\n");
+    Finding {
+        refusal: comparison.refusal,
+        end,
+    }
 }
 
 // `store ROOM VALUE x14`.
@@ -102,28 +118,25 @@ fn store(p: Page, c: Command, out: &mut [u8], line: u64) -> Page {
     )
 }
 
-// `compare BYTE... / BYTE...`.
-fn compare(p: Page, c: Command, out: &mut [u8], line: u64) -> Page {
-    let comparison = answers::comparison_of(c);
-    if is_brief(p, comparison.refusal) {
-        return report::verdict(p, out, line, comparison.refusal);
+// A command that finds something out.
+fn found(p: Page, c: Command, m: Machine, out: &mut [u8]) -> Finding
+    requires { ⌜ Sound (m .regs) (m .generator) ⌝ }
+{
+    let left = c.left;
+    let values = left.values;
+    if c.name == command::READ {
+        return read(p, m, out, values[0]);
     }
-    let end = room::put_either(out, p.waiting, comparison.equal, b"same\n", b"different\n");
-    report::turn(p, end)
-}
-
-// A command on sheets or checksums given.
-fn given(p: Page, c: Command, out: &mut [u8], line: u64) -> Page {
+    if c.name == command::NINE {
+        return nine(p, m, out);
+    }
     if c.name == command::SHEET {
-        return sheet(p, c, out, line);
+        return sheet(p, c, out);
     }
     if c.name == command::FIELD {
-        return field(p, c, out, line);
+        return field(p, c, out);
     }
-    if c.name == command::STORE {
-        return store(p, c, out, line);
-    }
-    compare(p, c, out, line)
+    compare(p, c, out)
 }
 
 // A command that only asks.
@@ -131,13 +144,12 @@ pub fn asked(p: Page, c: Command, m: Machine, out: &mut [u8], line: u64) -> Page
     requires { ⌜ Sound (m .regs) (m .generator) ⌝ }
     ensures room { λ _. ⌜ length (now (out .exit)) ≡ length (now (out .entry)) ⌝ }
 {
-    let left = c.left;
-    let values = left.values;
-    if c.name == command::READ {
-        return read(p, m, out, line, values[0]);
+    if c.name == command::STORE {
+        return store(p, c, out, line);
     }
-    if c.name == command::NINE {
-        return nine(p, m, out, line);
+    let answer = found(p, c, m, out);
+    if is_brief(p, answer.refusal) {
+        return report::verdict(p, out, line, answer.refusal);
     }
-    given(p, c, out, line)
+    report::turn(p, answer.end)
 }

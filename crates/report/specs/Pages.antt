@@ -6,11 +6,9 @@ use lib.Dec.{ltb, eqb}
 use Rattle.generator.specs.Tick.{silent}
 use Rattle.generator.specs.declared.Signals.{Signals}
 use Rattle.text.specs.Ascii.{ascii}
-use Rattle.text.specs.Decimal.{decimalText}
-use Rattle.text.specs.Lines.{lineEnd, countTexts}
 use Rattle.says.specs.Notes.{refusedTexts}
 use Rattle.says.specs.Answers.{lineTexts}
-use Rattle.wave.specs.Changes.{tickTexts}
+use Rattle.wave.specs.Waveform.{tickTexts}
 use Rattle.report.specs.declared.Page.{Page}
 
 -- before a script's first line
@@ -37,7 +35,3 @@ stepTexts p s =
     cond (eqb (p .form) 0) (lineTexts s)
     (cond (eqb (p .form) 1) (tickTexts (eqb (p .ticks) 0) (p .ticks) (p .last) s)
     [])
-
--- the head of a PPM: its kind, width and height, and the largest value of a colour
-abbrev pub ppmTexts : ℕ → ℕ → List (List ℕ)
-ppmTexts width height = ascii "P6\n" ∷ decimalText width ∷ ascii " " ∷ decimalText height ∷ ascii "\n255\n" ∷ []

@@ -5,7 +5,7 @@ ghost use lib.Dec.{ltb};
 ghost use Rattle.room.specs.Room.{putTexts, putEnds};
 ghost use Rattle.generator.specs.Tick.{silent};
 ghost use Rattle.says.specs.Notes.{refusedTexts, faultTexts};
-ghost use Rattle.report.specs.Pages.{blankPage, turned, counted, verdictTexts, stepTexts, ppmTexts};
+ghost use Rattle.report.specs.Pages.{blankPage, turned, counted, verdictTexts, stepTexts};
 use generator::Signals;
 use says::ANSWERS;
 use says::PICTURE;
@@ -148,16 +148,4 @@ pub fn tick(p: Page, out: &mut [u8], s: Signals) -> Page
         return count(p, end, s);
     }
     count(p, p.waiting, s)
-}
-
-// The head of a PPM.
-pub fn put_ppm(room: &mut [u8], at: usize, width: u64, height: u64) -> usize
-    ensures place { λ r. ⌜ r ≡ putEnds (now (room .entry)) at (ppmTexts width height) ⌝ }
-    ensures bytes { λ _. ⌜ now (room .exit) ≡ putTexts (now (room .entry)) at (ppmTexts width height) ⌝ }
-{
-    let kind = room::put(room, at, b"P6\n");
-    let wide = text::put_decimal(room, kind, width);
-    let parted = room::put(room, wide, b" ");
-    let high = text::put_decimal(room, parted, height);
-    room::put(room, high, b"\n255\n")
 }

@@ -1,25 +1,13 @@
 -- The answers to good commands (console.md). Assumes nothing.
 use Prim.Native.Nat.{ℕ}
-use mathlib.Core.Bool.{Bool, cond}
 use mathlib.Core.List.{List, [], _∷_, _++_}
 use lib.ListN.{getD}
 use Rattle.generator.specs.declared.Signals.{Signals}
 use Rattle.text.specs.Ascii.{ascii}
-use Rattle.hex.specs.Hex.{hexText}
 use Rattle.text.specs.Lines.{lineEnd}
+use Rattle.phrases.specs.Phrases.{levelTexts, addressTexts, colourTexts}
 
--- a wire's name and its level
-abbrev pub levelTexts : List ℕ → Bool → List (List ℕ)
-levelTexts name high = name ∷ cond high (ascii "1 ") (ascii "0 ") ∷ []
-
--- the address of a tick, `-` where none is answered
-abbrev pub addressTexts : Bool → ℕ → List (List ℕ)
-addressTexts answered address = ascii "address=" ∷ cond answered (hexText address) (ascii "-") ∷ []
-
--- a blank and a colour
-abbrev pub colourTexts : ℕ → List (List ℕ)
-colourTexts colour = ascii " " ∷ hexText colour ∷ []
-
+-- a pixel of a tick
 abbrev pub dotTexts : Signals → ℕ → List (List ℕ)
 dotTexts s k = colourTexts (getD (s .dots) k (record { colour = 0 }) .colour)
 

@@ -23,27 +23,21 @@ struct Left {
     more: bool,
 }
 
-// The largest memory, and the largest picture.
-fn memory_room() -> [u8; 1048576] {
-    [0; 1048576]
+// The largest memory, the largest picture, what may wait to be written, and a line with its end and one byte more.
+const MEMORY: usize = 1048576;
+
+const PICTURE_BYTES: usize = 3145728;
+
+const ROOM: usize = 65536;
+
+const LINE: usize = 1002;
+
+fn memory_room() -> [u8; MEMORY] {
+    [0; MEMORY]
 }
 
-fn picture_room() -> [u8; 3145728] {
-    [0; 3145728]
-}
-
-// The desk with more said.
-fn said(d: Desk, page: Page) -> Desk
-    requires { ⌜ Sound (d .machine .regs) (d .machine .generator) ⌝ }
-    ensures sound { λ r. ⌜ Sound (r .machine .regs) (r .machine .generator) ⌝ }
-{
-    let machine = d.machine;
-    Desk {
-        machine,
-        memory: d.memory,
-        lines: d.lines,
-        page,
-    }
+fn picture_room() -> [u8; PICTURE_BYTES] {
+    [0; PICTURE_BYTES]
 }
 
 // One tick's signals, or its refusal.
@@ -79,18 +73,11 @@ fn ticks(d: Desk, memory: &[u8], out: &mut [u8], count: u32) -> Desk
     }
 }
 
-// How many ticks a run has done, in answers.
-fn told_run(p: Page, out: &mut [u8], done: u32) -> Page {
-    if p.form == ANSWERS {
-        let end = text::put_count(out, p.waiting, b"ran ", done as u64);
-        return report::turn(p, end);
-    }
-    p
-}
-
-// What a run that is not shown says.
+// What a run that is not shown says: in answers how many ticks it has done. Its line is kept only there.
 fn ran(p: Page, out: &mut [u8], line: u64, done: u32, refusal: u32) -> Page {
-    let page = told_run(p, out, done);
+    let end = text::put_count(out, p.waiting, b"ran ", done as u64);
+    let waiting = base::choose(p.form == ANSWERS, end as u64, p.waiting as u64);
+    let page = report::turn(p, waiting as usize);
     if refusal == 0 {
         return page;
     }
@@ -132,29 +119,19 @@ fn timed(d: Desk, c: Command, memory: &[u8], out: &mut [u8]) -> Desk
     run(d, lent, out, count)
 }
 
-// A picture's size, kept where it was drawn.
-fn sized(p: Page, m: Machine, refusal: u32) -> Page {
-    if refusal != 0 {
-        return p;
-    }
-    let size = acts::size_of(m);
-    let mut next = p;
-    next.width = size.width;
-    next.height = size.height;
-    next
-}
-
-// `picture LENGTH`, into a buffer of that length.
+// `picture LENGTH`, into a buffer of that length. The size of a picture that was drawn is kept.
 fn pictured(d: Desk, memory: &[u8], buffer: &mut [u8], out: &mut [u8]) -> Desk
     requires { ⌜ Sound (d .machine .regs) (d .machine .generator) ⌝ }
     ensures sound { λ r. ⌜ Sound (r .machine .regs) (r .machine .generator) ⌝ }
 {
     let m = d.machine;
-    let before = d.page;
+    let mut kept = d.page;
     let drawn = acts::draw(m, memory, buffer);
     let machine = drawn.machine;
     let refusal = drawn.refusal;
-    let kept = sized(before, machine, refusal);
+    let size = acts::size_of(machine);
+    kept.width = base::choose(refusal == 0, size.width, kept.width);
+    kept.height = base::choose(refusal == 0, size.height, kept.height);
     let page = asks::shown(kept, out, d.lines, refusal, buffer);
     Desk {
         machine,
@@ -213,7 +190,13 @@ fn keep(d: Desk, c: Command, memory: &mut [u8], out: &mut [u8]) -> Desk
 }
 
 // A good command.
-fn acted(d: Desk, c: Command, memory: &mut [u8], picture: &mut [u8], out: &mut [u8]) -> Desk
+fn acted(
+    d: Desk,
+    c: Command,
+    memory: &mut [u8; MEMORY],
+    picture: &mut [u8; PICTURE_BYTES],
+    out: &mut [u8; ROOM],
+) -> Desk
     requires { ⌜ Sound (d .machine .regs) (d .machine .generator) ⌝ }
     ensures sound { λ r. ⌜ Sound (r .machine .regs) (r .machine .generator) ⌝ }
 {
@@ -232,10 +215,15 @@ fn acted(d: Desk, c: Command, memory: &mut [u8], picture: &mut [u8], out: &mut [
     if kind == 3 {
         return drawn(d, memory, picture, out, values[0]);
     }
-    let m = d.machine;
+    let machine = d.machine;
     let before = d.page;
-    let page = asks::asked(before, c, m, out, d.lines);
-    said(d, page)
+    let page = asks::asked(before, c, machine, out, d.lines);
+    Desk {
+        machine,
+        memory: d.memory,
+        lines: d.lines,
+        page,
+    }
 }
 
 // The desk at the next line.
@@ -255,18 +243,14 @@ fn next_line(d: Desk, out: &[u8]) -> Desk
     }
 }
 
-// A line that is no command.
-fn faulted(d: Desk, out: &mut [u8], fault: u32) -> Desk
-    requires { ⌜ Sound (d .machine .regs) (d .machine .generator) ⌝ }
-    ensures sound { λ r. ⌜ Sound (r .machine .regs) (r .machine .generator) ⌝ }
-{
-    let before = d.page;
-    let page = report::fault(before, out, d.lines, fault);
-    said(d, page)
-}
-
 // A whole line of the script.
-fn answered(d: Desk, line: &[u8], memory: &mut [u8], picture: &mut [u8], out: &mut [u8]) -> Desk
+fn answered(
+    d: Desk,
+    line: &[u8],
+    memory: &mut [u8; MEMORY],
+    picture: &mut [u8; PICTURE_BYTES],
+    out: &mut [u8; ROOM],
+) -> Desk
     requires { ⌜ Sound (d .machine .regs) (d .machine .generator) ⌝ }
     ensures sound { λ r. ⌜ Sound (r .machine .regs) (r .machine .generator) ⌝ }
 {
@@ -278,7 +262,15 @@ fn answered(d: Desk, line: &[u8], memory: &mut [u8], picture: &mut [u8], out: &m
     if c.fault == 0 {
         return acted(next, c, memory, picture, out);
     }
-    faulted(next, out, c.fault)
+    let machine = next.machine;
+    let before = next.page;
+    let page = report::fault(before, out, next.lines, c.fault);
+    Desk {
+        machine,
+        memory: next.memory,
+        lines: next.lines,
+        page,
+    }
 }
 
 // The lines that end in a piece of the script; what is left stands in `line`.
@@ -286,10 +278,10 @@ fn pieced(
     d: Desk,
     piece: &[u8],
     held: usize,
-    line: &mut [u8],
-    memory: &mut [u8],
-    picture: &mut [u8],
-    out: &mut [u8],
+    line: &mut [u8; LINE],
+    memory: &mut [u8; MEMORY],
+    picture: &mut [u8; PICTURE_BYTES],
+    out: &mut [u8; ROOM],
 ) -> Left
     requires { ⌜ Sound (d .machine .regs) (d .machine .generator) ⌝ }
     ensures sound { λ r. ⌜ Sound (r .desk .machine .regs) (r .desk .machine .generator) ⌝ }
@@ -322,10 +314,10 @@ fn pieced(
 // One read of the script, and the lines that end in it.
 fn read_some(
     d: Left,
-    line: &mut [u8],
-    memory: &mut [u8],
-    picture: &mut [u8],
-    out: &mut [u8],
+    line: &mut [u8; LINE],
+    memory: &mut [u8; MEMORY],
+    picture: &mut [u8; PICTURE_BYTES],
+    out: &mut [u8; ROOM],
 ) -> Left
     requires { ⌜ Sound (d .desk .machine .regs) (d .desk .machine .generator) ⌝ }
     ensures sound { λ r. ⌜ Sound (r .desk .machine .regs) (r .desk .machine .generator) ⌝ }
@@ -340,7 +332,13 @@ fn read_some(
 }
 
 // The script's end: a last line may lack its own.
-fn finished(left: Left, line: &[u8], memory: &mut [u8], picture: &mut [u8], out: &mut [u8]) -> Page
+fn finished(
+    left: Left,
+    line: &[u8; LINE],
+    memory: &mut [u8; MEMORY],
+    picture: &mut [u8; PICTURE_BYTES],
+    out: &mut [u8; ROOM],
+) -> Page
     requires { ⌜ Sound (left .desk .machine .regs) (left .desk .machine .generator) ⌝ }
 {
     let desk = left.desk;
@@ -359,7 +357,7 @@ fn finished(left: Left, line: &[u8], memory: &mut [u8], picture: &mut [u8], out:
 }
 
 // The last time of a waveform, after its last tick; what waits is written.
-fn closed(p: Page, out: &mut [u8]) -> Page {
+fn closed(p: Page, out: &mut [u8; ROOM]) -> Page {
     if p.form == WAVE {
         let end = text::put_count(out, p.waiting, b"#", p.ticks);
         let page = report::turn(p, end);
@@ -369,12 +367,12 @@ fn closed(p: Page, out: &mut [u8]) -> Page {
 }
 
 // A picture drawn, as a PPM on standard output; or a line on standard error.
-fn painted(p: Page, picture: &[u8], out: &mut [u8]) {
+fn painted(p: Page, picture: &[u8; PICTURE_BYTES], out: &mut [u8; ROOM]) {
     if (p.width == 0) | (p.height == 0) {
         io::write_all(2, b"draw: no picture was drawn\n");
         return;
     }
-    let head = report::put_ppm(out, 0, p.width, p.height);
+    let head = ppm::put_ppm(out, 0, p.width, p.height);
     io::write_all(1, text::bytes::lent(out, head));
     let pixels = base::product(p.width, p.height);
     let size = base::product(3, pixels);
@@ -382,8 +380,13 @@ fn painted(p: Page, picture: &[u8], out: &mut [u8]) {
 }
 
 // The whole script. A loop has to end, and nothing says that a script does: it counts from a number that no script uses up.
-fn course(p: Page, memory: &mut [u8], picture: &mut [u8], out: &mut [u8]) -> Page {
-    let mut line = [0u8; 1002];
+fn course(
+    p: Page,
+    memory: &mut [u8; MEMORY],
+    picture: &mut [u8; PICTURE_BYTES],
+    out: &mut [u8; ROOM],
+) -> Page {
+    let mut line = [0u8; LINE];
     let machine = acts::begun();
     let desk = Desk {
         machine,
@@ -405,7 +408,7 @@ fn course(p: Page, memory: &mut [u8], picture: &mut [u8], out: &mut [u8]) -> Pag
 }
 
 // A page with its head.
-fn opened(form: u32, out: &mut [u8]) -> Page {
+fn opened(form: u32, out: &mut [u8; ROOM]) -> Page {
     let page = report::blank_page(form);
     if form == WAVE {
         let end = wave::put_head(out, 0);

@@ -1,2 +1,2 @@
 -- The text of a waveform.
-pub mod Changes
+pub mod Waveform

@@ -1,37 +1,27 @@
--- `wave::put_tick` meets its contract: the first tick, one that changes something, and one that does not.
-use Rattle.wave.proofs.Cases.{tick-first, tick-later, tick-still, put-nothing}
+-- `wave::put_tick` meets its contract: a tick that is written, and one that changes nothing.
+use Rattle.wave.proofs.Cases.{tick-written, tick-still, put-nothing}
 use borrow.Author.Needs.{needs}
 use Rattle.wave.proofs.put_tick.Statement.{statement}
 use Rattle.wave.proofs.put_tick.Tie as tie
 
 returns : tie.Need-returns
 returns c =
-    let a = c .before .before .before .before .before .before .args in
-    let p = c .before .before .put-first .ensures in
-    let e = tick-first (a .first) (a .k) (a .b) (a .s) (c .before .before .before .before .if1 .taken) in
+    let a = c .before .before .before .before .before .before .before .before .args in
+    let p = c .before .before .put-wires .ensures in
+    let e = tick-written (a .first) (a .k) (a .b) (a .s) _ _ (c .before .before .before .before .before .before .levels-differ .ensures) (c .before .before .before .before .before .buses-differ .ensures) (c .before .before .before .before .if1 .taken) in
     (rw e (p .0), rw e (p .1))
 
 returns-2 : tie.Need-returns-2
 returns-2 c =
-    let a = c .before .before .before .before .before .before .before .before .before .args in
-    let p = c .before .before .put-later .ensures in
-    let e = tick-later (a .first) (a .k) (a .b) (a .s) _ _ (c .before .before .before .before .before .before .levels-differ .ensures) (c .before .before .before .before .before .buses-differ .ensures) (c .before .before .before .before .before .before .before .if1 .left) (c .before .before .before .before .if2 .taken) in
-    (rw e (p .0), rw e (p .1))
-
-returns-3 : tie.Need-returns-3
-returns-3 c =
-    put-nothing _ _ _ (tick-still _ _ _ _ _ _ (c .before .before .levels-differ .ensures) (c .before .buses-differ .ensures) (c .before .before .before .if1 .left) (c .if2 .left))
+    put-nothing _ _ _ (tick-still _ _ _ _ _ _ (c .before .before .levels-differ .ensures) (c .before .buses-differ .ensures) (c .if1 .left))
 
 pub put-tick-spec : {M : Type 1} → statement M
 put-tick-spec =
     tie.close
     (tie.spec
     (λ c κs. search needs)
+    (λ c κs. search needs)
+    (λ c κs. search needs)
     (λ c. search needs)
     returns
-    (λ c κs. search needs)
-    (λ c κs. search needs)
-    (λ c κs. search needs)
-    (λ c. search needs)
-    returns-2
-    returns-3)
+    returns-2)

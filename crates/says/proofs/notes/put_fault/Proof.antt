@@ -1,6 +1,6 @@
--- `says::notes::put_fault` meets its contract, in answers and in notes.
+-- `says::notes::put_fault` meets its contract.
 use Rattle.says.specs.Notes.{faultTexts}
-use borrow.Author.Tests.{eq-eqb, ne-eqb}
+use Rattle.room.proofs.Laying.{put-joined, put-one, put-some}
 use borrow.Author.Needs.{needs}
 use Rattle.says.proofs.notes.put_fault.Statement.{statement}
 use Rattle.says.proofs.notes.put_fault.Tie as tie
@@ -8,24 +8,18 @@ use Rattle.says.proofs.notes.put_fault.Tie as tie
 returns : tie.Need-returns
 unfolding faultTexts
 returns c =
-    let p = c .before .before .put-error .ensures in
-    let e = eq-eqb (c .before .before .before .before .before .before .args .form) 0 (c .before .before .before .before .if1 .taken) in
-    (rw e (p .0), rw e (p .1))
-
-returns-2 : tie.Need-returns-2
-unfolding faultTexts
-returns-2 c =
-    let p = c .before .before .put-fault-note .ensures in
-    let e = ne-eqb (c .before .before .before .before .before .before .args .form) 0 (c .before .before .before .before .if1 .left) in
-    (rw e (p .0), rw e (p .1))
+    let p = c .before .before .before .before .before .before .before .before .before .before .put-head .ensures in
+    let q = c .before .before .before .before .before .before .put-reason .ensures in
+    let r = c .before .before .put-close .ensures in
+    let puts = put-joined (put-some _ _ _ _ _ (p .0) (p .1)) (put-joined (put-one _ _ _ _ _ (q .0) (q .1)) (put-one _ _ _ _ _ (r .0) (r .1))) in
+    (puts .place, puts .bytes)
 
 pub put-fault-spec : {M : Type 1} → statement M
 put-fault-spec =
     tie.close
     (tie.spec
     (λ c κs. search needs)
-    (λ c. search needs)
-    returns
+    (λ c κs. search needs)
     (λ c κs. search needs)
     (λ c. search needs)
-    returns-2)
+    returns)

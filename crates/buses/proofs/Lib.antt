@@ -1,0 +1,2 @@
+-- Laws of a wire's text.
+mod Cases

@@ -1,0 +1,18 @@
+-- `buses::put_bus` meets its contract.
+use borrow.Author.Needs.{needs}
+use Rattle.buses.proofs.put_bus.Statement.{statement}
+use Rattle.buses.proofs.put_bus.Tie as tie
+
+returns : tie.Need-returns
+returns c = (cc, cc)
+
+pub put-bus-spec : {M : Type 1} → statement M
+put-bus-spec =
+    tie.close
+    (tie.spec
+    (λ c κs. search needs)
+    (λ c. search needs)
+    (λ c. search needs)
+    (λ c κs. search needs)
+    (λ c. search needs)
+    returns)

@@ -1,0 +1,2 @@
+-- The wires of 24 bits in a waveform.
+pub mod Buses

@@ -1,0 +1,19 @@
+-- `levels::put_level` meets its contract.
+use borrow.Author.Needs.{needs}
+use Rattle.levels.proofs.put_level.Statement.{statement}
+use Rattle.levels.proofs.put_level.Tie as tie
+
+returns : tie.Need-returns
+returns c = (cc, cc)
+
+pub put-level-spec : {M : Type 1} → statement M
+put-level-spec =
+    tie.close
+    (tie.spec
+    (λ c κs. search needs)
+    (λ c κs. search needs)
+    (λ c. search needs)
+    (λ c. search needs)
+    (λ c κs. search needs)
+    (λ c. search needs)
+    returns)

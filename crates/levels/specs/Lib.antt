@@ -1,0 +1,2 @@
+-- The one-bit wires in a waveform.
+pub mod Levels

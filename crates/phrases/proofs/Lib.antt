@@ -1,0 +1,2 @@
+-- Laws of phrases.
+mod Cases

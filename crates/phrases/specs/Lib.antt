@@ -1,0 +1,2 @@
+-- The phrases that lines are made of.
+pub mod Phrases

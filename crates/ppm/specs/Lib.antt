@@ -1,0 +1,2 @@
+-- The head of a PPM.
+pub mod Head
