@@ -1,12 +1,12 @@
 -- Cases of this crate's functions, over plain tests. Assumes nothing.
-use Prim.Native.Nat.{ℕ}
+use Prim.Native.Nat.{ℕ, _+_, _*_, _/_, _%_}
 use mathlib.Core.Path.{_≡_}
 use mathlib.Core.Bool.{Bool, true, false}
 use mathlib.Core.List.{List}
 use Rattle.ear.specs.Ear.{shows}
 use Rattle.form.specs.Form.{form}
-use Rattle.audiogram.specs.Picture.{entryAt}
-use Rattle.ear.specs.declared.marks.Point.{Point}
+use Rattle.audiogram.specs.Picture.{entryAt, byteAt}
+use Rattle.points.specs.declared.Point.{Point}
 
 -- the entry of a pixel, by what shows first
 module _ (right left : List ℕ) (p : Point) (a : Bool) (e : a ≡ shows true right p) where
@@ -27,3 +27,9 @@ module _ (right left : List ℕ) (p : Point) (a : Bool) (e : a ≡ shows true ri
       pub entry-paper : f ≡ false → 0 ≡ entryAt right left p
       unfolding entryAt
       entry-paper t = rw (← e, h, ← l, k, ← g, t)
+
+-- a byte, of its four pixels' entries
+module _ (right left : List ℕ) (i a b c d : ℕ) where
+  pub byte-made : a ≡ entryAt right left (record { x = i % 160 * 4; y = i / 160 }) → b ≡ entryAt right left (record { x = i % 160 * 4 + 1; y = i / 160 }) → c ≡ entryAt right left (record { x = i % 160 * 4 + 2; y = i / 160 }) → d ≡ entryAt right left (record { x = i % 160 * 4 + 3; y = i / 160 }) → a + 4 * b + 16 * c + 64 * d ≡ byteAt right left i
+  unfolding byteAt
+  byte-made e f g h = rw (e, f, g, h)

@@ -11,14 +11,14 @@ use lib.ListN.{length, getD, drop, length-append, length-drop, List·getD-append
 use lib.Seq.{getD-append-add, getD-drop}
 use Rattle.base.specs.Count.{some, run}
 use Rattle.base.proofs.Run.{run-length, run-entry}
-use Rattle.frame.proofs.Some.{some-none, some-at}
+use Rattle.base.proofs.Some.{some-none, some-at}
 use Rattle.memory.specs.Memory.{pixelAt}
 use Rattle.memory.proofs.Bytes.{pixel-inside}
-use Rattle.ear.specs.Marks.{mark}
+use Rattle.marks.specs.Marks.{mark}
 use Rattle.ear.specs.Ear.{measured, columns, pointOf, keyOf, lastBefore, coveredAt, shows}
 use Rattle.form.specs.Form.{form}
 use Rattle.audiogram.specs.Picture.{paperEntry, rightEntry, leftEntry, formEntry, entryAt, size, byteAt, drawn}
-use Rattle.ear.specs.declared.marks.Point.{Point}
+use Rattle.points.specs.declared.Point.{Point}
 
 -- ---- entries
 

@@ -6,7 +6,7 @@ use lib.ListN.{length, drop}
 use Rattle.base.specs.Count.{run}
 use Rattle.ear.specs.Ear.{shows}
 use Rattle.form.specs.Form.{form}
-use Rattle.ear.specs.declared.marks.Point.{Point}
+use Rattle.points.specs.declared.Point.{Point}
 
 -- the palette entries: paper, right ear, left ear, form
 abbrev pub paperEntry : ℕ

@@ -2,13 +2,8 @@
 ghost use mathlib.Core.Path.{_≡_};
 ghost use Prim.Native.Nat.{_<_, _≤_, min};
 ghost use Rattle.audiogram.specs.Picture.{entryAt, byteAt, drawn, size};
-use ear::marks::Point;
-
-// Levels by frequency, 125 to 8000 Hz: number n is -10 + 5 x n dB hearing level, up to 26; a larger one is not measured.
-pub struct Chart {
-    pub right: [u8; 11],
-    pub left: [u8; 11],
-}
+use points::Point;
+use thresholds::Chart;
 
 // The bytes of the picture.
 pub const SIZE: usize = 76800;

@@ -1,3 +1,5 @@
 -- Laws that callers of `base` use.
 pub mod Table
 pub mod Run
+pub mod Some
+pub mod Laying

@@ -9,7 +9,7 @@ use lib.ListN.{length, getD, replicate}
 use Rattle.base.specs.Count
 use Rattle.units.specs.Parameters
 use Rattle.screen.specs.Limits
-use Rattle.map.specs.Map
+use Rattle.registers.specs.Map
 use Rattle.registers.specs.File
 use Rattle.memory.specs.Memory.{pixelShown}
 use Rattle.colour.specs.Colour.{maskedColour}
@@ -17,7 +17,7 @@ use Rattle.pixel.specs.Dot.{dotAt}
 use Rattle.machine.specs.Rules
 use Rattle.ear.specs.Ear.{shows}
 use Rattle.audiogram.specs.Picture.{paperEntry, rightEntry, leftEntry, formEntry, entryAt, size, drawn}
-use Rattle.ear.specs.declared.marks.Point.{Point}
+use Rattle.points.specs.declared.Point.{Point}
 use Rattle.audiogram.proofs.Theorems.{drawn-pixel, entry-bound, right-where-shown, right-only-shown, left-where-shown, left-only-shown}
 use Rattle.settings.specs.Settings.{settings, settingsByte, settingsText}
 use Rattle.chart.specs.Started.{textOf, writes, refusals, table, started}

@@ -12,7 +12,7 @@ use Rattle.control.specs.Control.{running, forcedBlank, transferring, increment
 use Rattle.units.specs.Parameters
 use Rattle.screen.specs.Limits
 use Rattle.screen.specs.Totals
-use Rattle.map.specs.Map
+use Rattle.registers.specs.Map
 use Rattle.registers.specs.File
 use Rattle.registers.specs.declared.Registers.{Registers}
 use Rattle.pixel.specs.Dot.{dotAt, black}
@@ -26,7 +26,7 @@ use Rattle.frame.specs.Frame
 use Rattle.frame.specs.Demand.{firstPlace, Ready}
 use Rattle.frame.proofs.Demand.{demand-3}
 use Rattle.audiogram.specs.Picture.{entryAt, size, drawn}
-use Rattle.ear.specs.declared.marks.Point.{Point}
+use Rattle.points.specs.declared.Point.{Point}
 use Rattle.audiogram.proofs.Theorems.{drawn-length}
 use Rattle.settings.specs.Settings.{addressOf, valueOf}
 use Rattle.chart.specs.Started.{writes, table, started}

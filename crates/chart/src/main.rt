@@ -1,5 +1,5 @@
 // Reads a patient's thresholds on standard input and writes the bench script that draws their chart; a wrong line is named on standard error.
-use audiogram::Chart;
+use thresholds::Chart;
 
 // The chart read so far, the lines read, a fault or 0, the bytes held of a line that has not ended, and whether more may come.
 struct Desk {
@@ -45,7 +45,7 @@ fn poke(out: &mut [u8], waiting: usize, part: &[u8], at: u32) -> usize {
     if is_blank(part) {
         return waiting;
     }
-    let line = settings::poke_text(at, part);
+    let line = pokes::poke_text(at, part);
     let room = spaced(out, waiting);
     room::put(out, room, &line)
 }
@@ -84,25 +84,25 @@ fn script_for(chart: Chart, out: &mut [u8]) {
 
 // What is wrong with a line.
 fn phrase(out: &mut [u8], at: usize, fault: u32) -> usize {
-    if fault == patient::UNKNOWN_FREQUENCY {
+    if fault == thresholds::UNKNOWN_FREQUENCY {
         return room::put(out, at, b"unknown frequency\n");
     }
-    if fault == patient::GIVEN_TWICE {
+    if fault == thresholds::GIVEN_TWICE {
         return room::put(out, at, b"frequency given twice\n");
     }
-    if fault == patient::MISSING_EAR {
+    if fault == thresholds::MISSING_EAR {
         return room::put(out, at, b"missing ear\n");
     }
-    if fault == patient::TOO_MANY_WORDS {
+    if fault == thresholds::TOO_MANY_WORDS {
         return room::put(out, at, b"too many words\n");
     }
-    if fault == patient::NOT_A_LEVEL {
+    if fault == level::NOT_A_LEVEL {
         return room::put(out, at, b"level not a number\n");
     }
-    if fault == patient::OUT_OF_RANGE {
+    if fault == level::OUT_OF_RANGE {
         return room::put(out, at, b"level out of range, -10 to 120\n");
     }
-    if fault == patient::NOT_A_STEP {
+    if fault == level::NOT_A_STEP {
         return room::put(out, at, b"level not a step of 5\n");
     }
     room::put(out, at, b"line too long\n")
@@ -186,7 +186,7 @@ fn finished(d: Desk, line: &[u8], out: &mut [u8]) {
 // The whole input. A loop has to end, and nothing says that an input does: it counts from a number that no input uses up.
 fn session(out: &mut [u8]) {
     let mut line = [0u8; 1002];
-    let chart = patient::fresh();
+    let chart = thresholds::fresh();
     let mut desk = Desk {
         chart,
         lines: 0,

@@ -1,21 +1,26 @@
 -- Cases of an ear's functions, over plain numbers and tests. Assumes nothing.
-use Prim.Native.Nat.{ℕ, zero, suc, _+_, _*_, _^_, _≤_, _<_}
+use Prim.Native.Nat.{ℕ, zero, suc, _+_, _*_, _-_, _≤_}
 use mathlib.Core.Path.{_≡_, refl, sym, ap, _∙_}
 use mathlib.Core.Bool.{Bool, true, false, cond, _&&_, _||_}
 use mathlib.Core.List.{List}
-use native.Mathlib.Nat.{mul-le-mul}
 use native.Mathlib.Numerals.{add-one}
 use native.Mathlib.Omega.{arith}
 use lib.Dec.{ltb}
 use lib.ListN.{getD}
 use Rattle.base.specs.Count.{some}
-use Rattle.ear.specs.Marks.{mark}
-use Rattle.ear.specs.Ear.{measured, keyOf, lastBefore, coveredAt, shows}
-use Rattle.ear.specs.declared.marks.Point.{Point}
+use Rattle.marks.specs.Marks.{mark, line}
+use Rattle.ear.specs.Ear.{measured, columns, pointOf, keyOf, lastBefore, coveredAt, shows}
+use Rattle.points.specs.declared.Point.{Point}
 
--- a product of two coordinates
-pub product-small : (a b : ℕ) → a < 65536 → b < 65536 → a * b < 2 ^ 32
-product-small a b p q = omega (arith, mul-le-mul {n₁ = a} {m₁ = b} {n₂ = 65535} {m₂ = 65535} (omega arith) (omega arith))
+-- a level's place, of its column and its number
+pub point-made : (levels : List ℕ) (k level : ℕ) → level ≡ getD levels k 0 → _≡_ {A = Point} (record { x = getD columns k 0; y = 36 + 16 * level }) (pointOf levels k)
+point-made levels k level e = rw e
+
+-- a frequency's mark, or the line to it
+module _ (right : Bool) (levels : List ℕ) (p : Point) (last k before : ℕ) (from to : Point) (marked joined known : Bool) where
+  pub covered-made : before ≡ last - 1 → from ≡ pointOf levels before → to ≡ pointOf levels k → marked ≡ mark right p to → joined ≡ line p from to → known ≡ measured (getD levels k 0) → (known && (marked || (ltb 0 last && joined))) ≡ coveredAt right levels p last k
+  unfolding coveredAt
+  covered-made e f g h i j = rw (h, i, j, f, g, e)
 
 -- an ear, frequency by frequency
 module _ (right : Bool) (levels : List ℕ) (p : Point) where

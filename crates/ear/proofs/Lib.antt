@@ -1,2 +1,2 @@
--- Laws of an ear's marks and lines.
+-- Laws of an ear.
 mod Cases

@@ -5,8 +5,8 @@ use mathlib.Core.List.{List, [], _∷_}
 use lib.Dec.{ltb, leb}
 use lib.ListN.{getD}
 use Rattle.base.specs.Count.{some}
-use Rattle.ear.specs.Marks.{mark, line}
-use Rattle.ear.specs.declared.marks.Point.{Point}
+use Rattle.marks.specs.Marks.{mark, line}
+use Rattle.points.specs.declared.Point.{Point}
 
 -- levels go from -10 to 120 dB in steps of 5; a larger number is not measured
 abbrev pub measured : ℕ → Bool

@@ -1,3 +1,2 @@
--- The rules of an ear's marks and lines.
-pub mod Marks
+-- The rules of an ear.
 pub mod Ear

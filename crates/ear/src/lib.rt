@@ -1,14 +1,12 @@
 // One ear on the chart: its marks, the lines that join them, and its key beside the chart.
-pub mod marks;
-
 ghost use mathlib.Core.Path.{_≡_};
 ghost use Prim.Native.Nat.{_<_, _≤_};
 ghost use Rattle.ear.specs.Ear.{measured, pointOf, keyOf, coveredAt, shows};
-use crate::marks::Point;
-use crate::marks::is_line;
-use crate::marks::is_mark;
-use crate::marks::less;
-use crate::marks::pick;
+use marks::is_line;
+use marks::is_mark;
+use points::Point;
+use points::less;
+use points::pick;
 
 // The column of each frequency: an octave is 64 pixels.
 const COLUMNS: [u16; 11] = [112, 176, 240, 272, 304, 336, 368, 400, 432, 464, 496];

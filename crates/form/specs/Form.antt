@@ -5,7 +5,7 @@ use mathlib.Core.List.{List, [], _∷_}
 use lib.Dec.{ltb, leb, eqb}
 use lib.ListN.{getD}
 use Rattle.base.specs.Count.{some}
-use Rattle.ear.specs.declared.marks.Point.{Point}
+use Rattle.points.specs.declared.Point.{Point}
 
 -- octaves, half octaves dashed, the two sides, every 10 dB, and 0 dB twice as thick
 unfoldable pub grid : Point → Bool

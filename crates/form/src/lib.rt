@@ -4,9 +4,9 @@ ghost use mathlib.Core.Bool.{_&&_};
 ghost use Prim.Native.Nat.{_<_};
 ghost use lib.ListN.{getD};
 ghost use Rattle.form.specs.Form.{grid, font, inked, dot, textAt, labelled, form};
-use ear::marks::Point;
-use ear::marks::less;
-use ear::marks::pick;
+use points::Point;
+use points::less;
+use points::pick;
 
 // The signs 0 to 9, -, H, z, d, B, L, R, I, G, T, E, F: seven rows of a byte, the top one first, the left column in bit 5.
 const FONT: [u64; 22] = [

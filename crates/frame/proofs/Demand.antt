@@ -26,7 +26,7 @@ use Rattle.generator.specs.declared.Generator.{Generator}
 use Rattle.generator.specs.declared.Signals.{Signals}
 use Rattle.frame.specs.Frame.{AtStart, rowAddress, addressAt, placeAt, dotFor, pictureRefuses20, frameEnd, Whole}
 use Rattle.frame.specs.Demand.{answer, isShown, isTransfer, addressesAnswered, placesShown, firstPlace, Ready, Demand3}
-use Rattle.frame.proofs.Some.{some-none, some-at}
+use Rattle.base.proofs.Some.{some-none, some-at}
 use Rattle.frame.proofs.Place.{ticks-some, visible-some, rows-some, start-number}
 use Rattle.frame.proofs.Rows.{by-four}
 use Rattle.frame.proofs.Whole.{row-lit, unrefused as unrefused-tick, before-tick, by-ticks, whole}

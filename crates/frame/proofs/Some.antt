@@ -1,12 +1,10 @@
--- Laws of a test over numbers: whether some number below n passes. Assumes nothing.
-use Prim.Native.Nat.{ℕ, zero, suc, _+_, _*_, _≤_, _<_}
+-- More laws of a test over numbers: two tests, four numbers at a time, one number more. Assumes nothing.
+use Prim.Native.Nat.{ℕ, zero, suc, _+_, _*_, _<_}
 use mathlib.Core.Bool.{Bool, true, false, cond, _&&_, _||_, true≢false}
-use mathlib.Core.Logic.{⊎-elim}
 use mathlib.Core.Path.{_≡_, refl}
 use native.Mathlib.Numerals.{add-one}
 use native.Mathlib.Omega.{arith}
 use Rattle.base.specs.Count.{some}
-use Rattle.generator.proofs.Shown.{below}
 
 -- two tests that agree
 pub some-same : (p q : ℕ → Bool) (n : ℕ) → ((k : ℕ) → k < n → p k ≡ q k) → some p n ≡ some q n
@@ -16,27 +14,6 @@ some-same p q (suc n) h =
     let a = some-same p q n (λ k l. h k (omega arith)) in
     let b = h n (omega arith) in
     cc
-
--- no number passes
-pub some-none : (p : ℕ → Bool) (n : ℕ) → ((k : ℕ) → k < n → p k ≡ false) → some p n ≡ false
-unfolding some
-some-none p zero h = refl
-some-none p (suc n) h = rw (some-none p n (λ k l. h k (omega arith)), h n (omega arith))
-
--- one number does
-pub some-at : (p : ℕ → Bool) (n k : ℕ) → k < n → p k ≡ true → some p n ≡ true
-unfolding some
-some-at p zero k l e = absurd (omega arith)
-some-at p (suc n) k l e = ⊎-elim (λ q. rw (some-at p n k q e)) here (below k n)
-  where
-    either : (x : Bool) → (x || true) ≡ true
-    either true = refl
-    either false = refl
-
-    here : n ≤ k → (some p n || p n) ≡ true
-    here q =
-        let z : k ≡ n = omega arith in
-        rw (rw z at e) (either (some p n))
 
 or-assoc : (a b c : Bool) → ((a || b) || c) ≡ (a || (b || c))
 or-assoc true b c = refl

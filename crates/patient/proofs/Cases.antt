@@ -1,96 +1,20 @@
 -- Cases of this crate's functions, over plain numbers, tests and lists. Assumes nothing.
-use Prim.Native.Nat.{ℕ, _+_, _-_, _/_, _%_, _≤_, _<_}
-use mathlib.Core.Path.{_≡_, refl, sym, _∙_}
-use mathlib.Core.Bool.{Bool, true, false, not, cond, _&&_, _||_}
-use mathlib.Core.List.{List, [], _∷_}
+use Prim.Native.Nat.{ℕ, _+_, _≤_, _<_}
+use mathlib.Core.Path.{_≡_, refl, _∙_}
+use mathlib.Core.Bool.{Bool, true, false, cond, _&&_}
+use mathlib.Core.List.{List}
 use native.Mathlib.Numerals.{add-one}
-use native.Mathlib.Omega.{arith}
-use borrow.Author.Tests.{lt-ltb, le-ltb, eq-eqb, ne-eqb, ltb-false}
-use lib.Dec.{ltb, eqb}
-use lib.ListN.{length, getD, take, drop, set, length-drop, List·getD-eq-default}
-use lib.Seq.{take-all}
-use Rattle.words.specs.Words.{wordAt}
-use Rattle.number.specs.Numbers.{numberOf}
+use borrow.Author.Tests.{lt-ltb, le-ltb}
+use lib.Dec.{eqb}
+use lib.ListN.{length, getD, drop}
+use Rattle.words.specs.Words.{front, skip, past, wordAt, wordCount}
 use Rattle.number.specs.declared.Number.{Number}
-use Rattle.audiogram.specs.declared.Chart.{Chart}
-use Rattle.patient.specs.Patient.{notALevel, outOfRange, notMeasured, notAStep, tooLong, plainNumber, dash, wrongNumber, stepped, levelAbove, levelBelow, levelOf, frequencies, foundUpTo, placedFault, placed, wordsRead, silent, lineRead}
-use Rattle.patient.specs.declared.Level.{Level}
-use Rattle.patient.specs.declared.Reading.{Reading}
-
--- ---- lists
-
--- past the end there is 0
-pub none-there : (l : List ℕ) (n : ℕ) → length l ≤ n → 0 ≡ getD l n 0
-none-there l n h = sym (List·getD-eq-default l 0 h)
-
--- a word without its first byte
-pub none-left : (l : List ℕ) → length l ≡ 0 → l ≡ drop 1 l
-none-left [] h = refl
-none-left (x ∷ l) h = absurd (omega arith)
-
-pub all-left : (l : List ℕ) → take (length l - 1) (drop 1 l) ≡ drop 1 l
-all-left l = take-all (length l - 1) (drop 1 l) (omega (arith, length-drop 1 l))
-
--- ---- levels
-
-pub step-whole : (above : ℕ) → above % 5 ≡ 0 → _≡_ {A = Level} (record { fault = 0; number = above / 5 }) (stepped above)
-step-whole above h = rw (eq-eqb (above % 5) 0 h)
-
-pub step-part : (above : ℕ) → (above % 5 ≡ 0 → ⊥) → _≡_ {A = Level} (record { fault = notAStep; number = notMeasured }) (stepped above)
-step-part above h = rw (ne-eqb (above % 5) 0 h)
-
--- a number that is not wrong is at most the most
-pub wrong-none : (n : Number) (most : ℕ) → wrongNumber n most ≡ 0 → n .value ≤ most
-unfolding wrongNumber
-wrong-none n most e = go (eqb (n .fault) 4) (eqb (n .fault) 0) (ltb most (n .value)) refl e
-  where
-    go : (a b c : Bool) → ltb most (n .value) ≡ c → cond a notALevel (cond (not b || c) outOfRange 0) ≡ 0 → n .value ≤ most
-    go true b c l e = absurd (omega arith)
-    go false true true l e = absurd (omega arith)
-    go false true false l e = ltb-false most (n .value) l
-    go false false c l e = absurd (omega arith)
-
-module _ (n : Number) (wrong : ℕ) where
-  pub above-good : (l : Level) → wrong ≡ wrongNumber n 120 → wrong ≡ 0 → l ≡ stepped (10 + n .value) → l ≡ levelAbove n
-  unfolding levelAbove
-  above-good l e z h = rw (← e, eq-eqb wrong 0 z) h
-
-  pub above-wrong : wrong ≡ wrongNumber n 120 → (wrong ≡ 0 → ⊥) → _≡_ {A = Level} (record { fault = wrong; number = notMeasured }) (levelAbove n)
-  unfolding levelAbove
-  above-wrong e z = rw (← e, ne-eqb wrong 0 z)
-
-  pub below-good : (l : Level) → wrong ≡ wrongNumber n 10 → wrong ≡ 0 → l ≡ stepped (10 - n .value) → l ≡ levelBelow n
-  unfolding levelBelow
-  below-good l e z h = rw (← e, eq-eqb wrong 0 z) h
-
-  pub below-wrong : wrong ≡ wrongNumber n 10 → (wrong ≡ 0 → ⊥) → _≡_ {A = Level} (record { fault = wrong; number = notMeasured }) (levelBelow n)
-  unfolding levelBelow
-  below-wrong e z = rw (← e, ne-eqb wrong 0 z)
-
--- ---- words
-
-module _ (word : List ℕ) (first : ℕ) (h : first ≡ getD word 0 0) where
-  pub number-hexadecimal : eqb first 35 ≡ true → _≡_ {A = Number} (record { fault = 4; value = 0 }) (plainNumber word)
-  unfolding plainNumber
-  number-hexadecimal e = rw (← h, e)
-
-  pub number-plain : (n : Number) → eqb first 35 ≡ false → n ≡ numberOf word → n ≡ plainNumber word
-  unfolding plainNumber
-  number-plain n e k = rw (← h, e) k
-
-module _ (word : List ℕ) (empty : Bool) (d : empty ≡ dash word) where
-  pub level-dash : empty ≡ true → _≡_ {A = Level} (record { fault = 0; number = notMeasured }) (levelOf word)
-  unfolding levelOf
-  level-dash e = rw (← d, e)
-
-  module _ (e : empty ≡ false) (first : ℕ) (h : first ≡ getD word 0 0) where
-    pub level-negative : (l : Level) → eqb first 45 ≡ true → l ≡ levelBelow (plainNumber (drop 1 word)) → l ≡ levelOf word
-    unfolding levelOf
-    level-negative l t k = rw (← d, e, ← h, t) k
-
-    pub level-positive : (l : Level) → eqb first 45 ≡ false → l ≡ levelAbove (plainNumber word) → l ≡ levelOf word
-    unfolding levelOf
-    level-positive l t k = rw (← d, e, ← h, t) k
+use Rattle.thresholds.specs.declared.Chart.{Chart}
+use Rattle.thresholds.specs.declared.Reading.{Reading}
+use Rattle.thresholds.specs.declared.Level.{Level}
+use Rattle.thresholds.specs.Thresholds.{placed}
+use Rattle.level.specs.Levels.{plainNumber, levelOf}
+use Rattle.patient.specs.Patient.{tooLong, frequencies, foundUpTo, frequencyOf, wordsRead, silent, lineRead}
 
 -- one frequency more
 pub found-none : (n : Number) → 11 ≡ foundUpTo n 0
@@ -100,17 +24,6 @@ found-none n = refl
 pub found-next : (n : Number) (k found next : ℕ) → found ≡ foundUpTo n k → next ≡ cond (eqb (getD frequencies k 0) (n .value) && eqb (n .fault) 0) k found → next ≡ foundUpTo n (k + 1)
 unfolding foundUpTo
 found-next n k found next e h = h ∙ rw (e, add-one k)
-
--- ---- lines
-
-module _ (chart : Chart) (k words : ℕ) (right left : Level) (fault : ℕ) (e : fault ≡ placedFault chart k words right left) where
-  pub placed-good : (rights lefts : List ℕ) → fault ≡ 0 → rights ≡ set (chart .right) k (right .number) → lefts ≡ set (chart .left) k (left .number) → _≡_ {A = Reading} (record { fault = fault; chart = record { right = rights; left = lefts } }) (placed chart k words right left)
-  unfolding placed
-  placed-good rights lefts z r l = rw (← e, eq-eqb fault 0 z, z, r, l)
-
-  pub placed-wrong : (fault ≡ 0 → ⊥) → _≡_ {A = Reading} (record { fault = fault; chart = chart }) (placed chart k words right left)
-  unfolding placed
-  placed-wrong z = rw (← e, ne-eqb fault 0 z)
 
 module _ (chart : Chart) (line : List ℕ) (remark : Bool) (h : remark ≡ silent (wordAt 0 line)) where
   pub line-remark : remark ≡ true → _≡_ {A = Reading} (record { fault = 0; chart = chart }) (lineRead chart line)
@@ -125,3 +38,14 @@ module _ (chart : Chart) (line : List ℕ) (remark : Bool) (h : remark ≡ silen
     pub line-words : (r : Reading) → length line ≤ 1000 → r ≡ wordsRead chart line → r ≡ lineRead chart line
     unfolding lineRead
     line-words r l k = rw (← h, e, le-ltb 1000 (length line) l) k
+
+-- the first word of a line, and what is left past it
+module _ (line word : List ℕ) (to : ℕ) (first : word ≡ front (skip (drop 0 line))) where
+  pub remark-made : (r : Bool) → r ≡ silent word → r ≡ silent (wordAt 0 line)
+  unfolding wordAt
+  remark-made r e = rw (e, first)
+
+  -- a line, word by word
+  pub words-made : (chart : Chart) (n : Number) (k words next : ℕ) (right left : Level) (r : Reading) → drop to line ≡ past (skip (drop 0 line)) → n ≡ plainNumber word → k ≡ frequencyOf n → right ≡ levelOf (front (skip (drop to line))) → drop next line ≡ past (skip (drop to line)) → left ≡ levelOf (front (skip (drop next line))) → words ≡ wordCount line → r ≡ placed chart k words right left → r ≡ wordsRead chart line
+  unfolding wordsRead wordAt
+  words-made chart n k words next right left r d e f g h i j m = rw (m, f, e, first, j, i, g, h, d)

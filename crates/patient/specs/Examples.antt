@@ -2,8 +2,9 @@
 use Prim.Native.Nat.{ℕ}
 use mathlib.Core.List.{List, [], _∷_}
 use lib.ListN.{set}
-use Rattle.audiogram.specs.declared.Chart.{Chart}
-use Rattle.patient.specs.Patient.{fresh, lineRead}
+use Rattle.thresholds.specs.declared.Chart.{Chart}
+use Rattle.thresholds.specs.Thresholds.{fresh}
+use Rattle.patient.specs.Patient.{lineRead}
 
 -- a line, and the number of its fault; 0 is none
 pub record Row : Type 0 where

@@ -1,2 +1,2 @@
--- Laws of the script's text.
+-- Laws of the script's register writes.
 mod Cases

@@ -1,2 +1,2 @@
--- The rules of the script's text.
+-- The rules of the script's register writes.
 pub mod Settings

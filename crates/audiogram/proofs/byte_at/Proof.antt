@@ -1,11 +1,10 @@
 -- `audiogram::byte_at` meets its contract. Assumes nothing.
-use Rattle.audiogram.specs.Picture.{byteAt}
+use Rattle.audiogram.proofs.Cases.{byte-made}
 use borrow.Author.Needs.{needs}
 use Rattle.audiogram.proofs.byte_at.Statement.{statement}
 use Rattle.audiogram.proofs.byte_at.Tie as tie
 
 pub byte-at-spec : {M : Type 1} → statement M
-unfolding byteAt
 byte-at-spec =
     tie.close
     (tie.spec
@@ -25,4 +24,4 @@ byte-at-spec =
     (λ c. search needs)
     (λ c. search needs)
     (λ c. search needs)
-    (λ c. cc))
+    (λ c. byte-made _ _ _ _ _ _ _ (c .before .before .before .entry-at .ensures .0) (c .before .before .entry-at2 .ensures .0) (c .before .entry-at3 .ensures .0) (c .entry-at4 .ensures .0)))

@@ -6,7 +6,8 @@ use native.Mathlib.Omega.{arith}
 use lib.ListN.{length, drop}
 use Rattle.base.specs.Count.{run}
 use Rattle.audiogram.specs.Picture.{byteAt}
-use Rattle.audiogram.proofs.Laying.{laid-none, laid-next, laid-length, laid-whole}
+use Rattle.base.proofs.Laying.{laid-none, laid-next, laid-length}
+use Rattle.audiogram.proofs.Laying.{laid-whole}
 use borrow.Author.Needs.{needs}
 use Rattle.audiogram.proofs.draw.Statement.{statement}
 use Rattle.audiogram.proofs.draw.Tie as tie

@@ -11,9 +11,9 @@ entry-at-spec =
     tie.close
     (tie.spec
     (λ c κs. search needs)
-    (λ c. (entry-right _ _ _ _ (cc) (c .if1 .taken), omega arith))
+    (λ c. (entry-right _ _ _ _ (c .before .shows .ensures) (c .if1 .taken), omega arith))
     (λ c κs. search needs)
-    (λ c. (entry-left _ _ _ _ (cc) (c .before .before .if1 .left) _ (cc) (c .if2 .taken), omega arith))
+    (λ c. (entry-left _ _ _ _ (c .before .before .before .shows .ensures) (c .before .before .if1 .left) _ (c .before .shows2 .ensures) (c .if2 .taken), omega arith))
     (λ c κs. search needs)
-    (λ c. (entry-form _ _ _ _ (cc) (c .before .before .before .before .if1 .left) _ (cc) (c .before .before .if2 .left) _ (c .before .shows3 .ensures) (c .if3 .taken), omega arith))
-    (λ c. (entry-paper _ _ _ _ (cc) (c .before .before .before .before .if1 .left) _ (cc) (c .before .before .if2 .left) _ (c .before .shows3 .ensures) (c .if3 .left), omega arith)))
+    (λ c. (entry-form _ _ _ _ (c .before .before .before .before .before .shows .ensures) (c .before .before .before .before .if1 .left) _ (c .before .before .before .shows2 .ensures) (c .before .before .if2 .left) _ (c .before .shows3 .ensures) (c .if3 .taken), omega arith))
+    (λ c. (entry-paper _ _ _ _ (c .before .before .before .before .before .shows .ensures) (c .before .before .before .before .if1 .left) _ (c .before .before .before .shows2 .ensures) (c .before .before .if2 .left) _ (c .before .shows3 .ensures) (c .if3 .left), omega arith)))

@@ -1,11 +1,10 @@
 -- `ear::is_covered` meets its contract. Assumes nothing.
-use Rattle.ear.specs.Ear.{coveredAt}
+use Rattle.ear.proofs.Cases.{covered-made}
 use borrow.Author.Needs.{needs}
 use Rattle.ear.proofs.is_covered.Statement.{statement}
 use Rattle.ear.proofs.is_covered.Tie as tie
 
 pub is-covered-spec : {M : Type 1} → statement M
-unfolding coveredAt
 is-covered-spec =
     tie.close
     (tie.spec
@@ -16,4 +15,4 @@ is-covered-spec =
     (λ c κs. search needs)
     (λ c. search needs)
     (λ c κs. search needs)
-    (λ c. cc))
+    (λ c. search covered-made))

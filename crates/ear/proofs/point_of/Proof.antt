@@ -1,4 +1,5 @@
 -- `ear::point_of` meets its contract. Assumes nothing.
+use Rattle.ear.proofs.Cases.{point-made}
 use borrow.Author.Needs.{needs}
 use Rattle.ear.proofs.point_of.Statement.{statement}
 use Rattle.ear.proofs.point_of.Tie as tie
@@ -14,4 +15,4 @@ point-of-spec =
     (λ c. search needs)
     (λ c. search needs)
     (λ c. search needs)
-    (λ c. cc))
+    (λ c. search point-made))

@@ -6,8 +6,8 @@ use Prim.Native.Nat.{_+_}
 use native.Mathlib.Omega.{arith}
 use Rattle.base.specs.Count.{some}
 use Rattle.ear.specs.Ear.{lastBefore, coveredAt}
-use Rattle.ear.specs.Marks.{mark}
-use Rattle.ear.specs.declared.marks.Point.{Point}
+use Rattle.marks.specs.Marks.{mark}
+use Rattle.points.specs.declared.Point.{Point}
 use Rattle.ear.proofs.Cases.{ear-none, ear-more, last-more, ear-whole, last-below}
 use borrow.Author.Needs.{needs}
 use Rattle.ear.proofs.shows.Statement.{statement}

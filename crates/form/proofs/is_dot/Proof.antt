@@ -1,11 +1,10 @@
 -- `form::is_dot` meets its contract. Assumes nothing.
-use Rattle.form.specs.Form.{dot}
+use Rattle.form.proofs.Cases.{dot-made}
 use borrow.Author.Needs.{needs}
 use Rattle.form.proofs.is_dot.Statement.{statement}
 use Rattle.form.proofs.is_dot.Tie as tie
 
 pub is-dot-spec : {M : Type 1} → statement M
-unfolding dot
 is-dot-spec =
     tie.close
     (tie.spec
@@ -14,4 +13,4 @@ is-dot-spec =
     (λ c. search needs)
     (λ c. search needs)
     (λ c κs. search needs)
-    (λ c. cc))
+    (λ c. search dot-made))

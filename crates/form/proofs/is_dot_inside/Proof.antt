@@ -1,4 +1,5 @@
 -- `form::is_dot_inside` meets its contract. Assumes nothing.
+use Rattle.form.proofs.Cases.{inside-made}
 use borrow.Author.Needs.{needs}
 use Rattle.form.proofs.is_dot_inside.Statement.{statement}
 use Rattle.form.proofs.is_dot_inside.Tie as tie
@@ -8,5 +9,5 @@ is-dot-inside-spec =
     tie.close
     (tie.spec
     (λ c κs. search needs)
-    (λ c. cc)
+    (λ c. search inside-made)
     (λ c. search needs))

@@ -1,14 +1,13 @@
 -- `form::is_grid` meets its contract. Assumes nothing.
-use Rattle.form.specs.Form.{grid}
+use Rattle.form.proofs.Cases.{grid-made}
 use borrow.Author.Needs.{needs}
 use Rattle.form.proofs.is_grid.Statement.{statement}
 use Rattle.form.proofs.is_grid.Tie as tie
 
 pub is-grid-spec : {M : Type 1} → statement M
-unfolding grid
 is-grid-spec =
     tie.close
     (tie.spec
     (λ c κs. search needs)
     (λ c κs. search needs)
-    (λ c. cc))
+    (λ c. search grid-made))

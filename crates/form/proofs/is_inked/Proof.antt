@@ -1,11 +1,10 @@
 -- `form::is_inked` meets its contract. Assumes nothing.
-use Rattle.form.specs.Form.{inked}
+use Rattle.form.proofs.Cases.{inked-made}
 use borrow.Author.Needs.{needs}
 use Rattle.form.proofs.is_inked.Statement.{statement}
 use Rattle.form.proofs.is_inked.Tie as tie
 
 pub is-inked-spec : {M : Type 1} → statement M
-unfolding inked
 is-inked-spec =
     tie.close
     (tie.spec
@@ -16,4 +15,4 @@ is-inked-spec =
     (λ c κs. search needs)
     (λ c. search needs)
     (λ c. search needs)
-    (λ c. cc))
+    (λ c. search inked-made))

@@ -1,11 +1,10 @@
 -- `form::is_label` meets its contract. Assumes nothing.
-use Rattle.form.specs.Form.{labelled}
+use Rattle.form.proofs.Cases.{label-made}
 use borrow.Author.Needs.{needs}
 use Rattle.form.proofs.is_label.Statement.{statement}
 use Rattle.form.proofs.is_label.Tie as tie
 
 pub is-label-spec : {M : Type 1} → statement M
-unfolding labelled
 is-label-spec =
     tie.close
     (tie.spec
@@ -16,4 +15,4 @@ is-label-spec =
     (λ c. search needs)
     (λ c. search needs)
     (λ c κs. search needs)
-    (λ c. cc))
+    (λ c. search label-made))

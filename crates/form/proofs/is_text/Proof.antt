@@ -1,11 +1,10 @@
 -- `form::is_text` meets its contract. Assumes nothing.
-use Rattle.form.specs.Form.{textAt}
+use Rattle.form.proofs.Cases.{text-made}
 use borrow.Author.Needs.{needs}
 use Rattle.form.proofs.is_text.Statement.{statement}
 use Rattle.form.proofs.is_text.Tie as tie
 
 pub is-text-spec : {M : Type 1} → statement M
-unfolding textAt
 is-text-spec =
     tie.close
     (tie.spec
@@ -14,4 +13,4 @@ is-text-spec =
     (λ c κs. search needs)
     (λ c κs. search needs)
     (λ c κs. search needs)
-    (λ c. cc))
+    (λ c. search text-made))

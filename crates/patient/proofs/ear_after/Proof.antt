@@ -1,6 +1,6 @@
 -- `patient::ear_after` meets its contract. Assumes nothing.
 use mathlib.Core.Path.{_∙_, ap}
-use Rattle.patient.specs.Patient.{levelOf}
+use Rattle.level.specs.Levels.{levelOf}
 use borrow.Author.Needs.{needs}
 use Rattle.patient.proofs.ear_after.Statement.{statement}
 use Rattle.patient.proofs.ear_after.Tie as tie

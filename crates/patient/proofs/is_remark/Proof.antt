@@ -1,11 +1,10 @@
 -- `patient::is_remark` meets its contract. Assumes nothing.
-use Rattle.words.specs.Words.{wordAt}
+use Rattle.patient.proofs.Cases.{remark-made}
 use borrow.Author.Needs.{needs}
 use Rattle.patient.proofs.is_remark.Statement.{statement}
 use Rattle.patient.proofs.is_remark.Tie as tie
 
 pub is-remark-spec : {M : Type 1} → statement M
-unfolding wordAt
 is-remark-spec =
     tie.close
     (tie.spec
@@ -14,4 +13,4 @@ is-remark-spec =
     (λ c. search needs)
     (λ c. search needs)
     (λ c κs. search needs)
-    (λ c. cc))
+    (λ c. search remark-made))

@@ -1,6 +1,5 @@
 -- `patient::words_read` meets its contract. Assumes nothing.
-use Rattle.words.specs.Words.{wordAt}
-use Rattle.patient.specs.Patient.{wordsRead}
+use Rattle.patient.proofs.Cases.{words-made}
 use borrow.Author.Needs.{needs}
 use Rattle.patient.proofs.words_read.Statement.{statement}
 use Rattle.patient.proofs.words_read.Tie as tie
@@ -36,8 +35,7 @@ placed-requires : tie.Need-placed-requires
 placed-requires c κs = search needs
 
 returns : tie.Need-returns
-unfolding wordsRead wordAt
-returns c = cc
+returns c = search words-made
 
 pub words-read-spec : {M : Type 1} → statement M
 words-read-spec =

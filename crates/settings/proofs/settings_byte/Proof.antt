@@ -1,5 +1,5 @@
 -- `settings::settings_byte` meets its contract. Assumes nothing.
-use Rattle.settings.specs.Settings.{settingsByte}
+use Rattle.settings.proofs.Cases.{byte-made}
 use borrow.Author.Needs.{needs}
 use Rattle.settings.proofs.settings_byte.Statement.{statement}
 use Rattle.settings.proofs.settings_byte.Tie as tie
@@ -23,8 +23,7 @@ array-read-result : tie.Need-array-read-result
 array-read-result c = search needs
 
 returns : tie.Need-returns
-unfolding settingsByte
-returns c = cc
+returns c = byte-made _ _ (c .row-text .ensures)
 
 pub settings-byte-spec : {M : Type 1} → statement M
 settings-byte-spec =

@@ -5,9 +5,8 @@ use mathlib.Core.List.{_++_}
 use native.Mathlib.Omega.{arith}
 use lib.ListN.{length, drop}
 use Rattle.base.specs.Count.{run}
-use Rattle.audiogram.proofs.Laying.{laid-none, laid-next}
+use Rattle.base.proofs.Laying.{laid-none, laid-next, laid-all}
 use Rattle.settings.specs.Settings.{settingsText, settingsByte}
-use Rattle.settings.proofs.Cases.{laid-all}
 use borrow.Author.Needs.{needs}
 use Rattle.settings.proofs.settings_text.Statement.{statement}
 use Rattle.settings.proofs.settings_text.Tie as tie

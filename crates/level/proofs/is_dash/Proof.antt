@@ -1,0 +1,13 @@
+-- `level::is_dash` meets its contract. Assumes nothing.
+use borrow.Author.Needs.{needs}
+use Rattle.level.proofs.is_dash.Statement.{statement}
+use Rattle.level.proofs.is_dash.Tie as tie
+
+head-requires : tie.Need-head-requires
+head-requires c κs = search needs
+
+returns : tie.Need-returns
+returns c = cc
+
+pub is-dash-spec : {M : Type 1} → statement M
+is-dash-spec = tie.close (tie.spec head-requires returns)

@@ -1,0 +1,2 @@
+-- The rules of a level in words.
+pub mod Levels

@@ -1,0 +1,2 @@
+-- Laws of marks and lines.
+mod Cases

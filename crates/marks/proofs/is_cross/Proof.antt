@@ -1,0 +1,13 @@
+-- `marks::is_cross` meets its contract. Assumes nothing.
+use borrow.Author.Needs.{needs}
+use Rattle.marks.proofs.is_cross.Statement.{statement}
+use Rattle.marks.proofs.is_cross.Tie as tie
+
+pub is-cross-spec : {M : Type 1} → statement M
+is-cross-spec =
+    tie.close
+    (tie.spec
+    (λ c κs. search needs)
+    (λ c κs. search needs)
+    (λ c κs. search needs)
+    (λ c. cc))

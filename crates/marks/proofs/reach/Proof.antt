@@ -1,0 +1,13 @@
+-- `marks::reach` meets its contract. Assumes nothing.
+use borrow.Author.Needs.{needs}
+use Rattle.marks.proofs.reach.Statement.{statement}
+use Rattle.marks.proofs.reach.Tie as tie
+
+pub reach-spec : {M : Type 1} → statement M
+reach-spec =
+    tie.close
+    (tie.spec
+    (λ c κs. search needs)
+    (λ c κs. search needs)
+    (λ c κs. search needs)
+    (λ c. cc))

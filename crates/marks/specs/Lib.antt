@@ -1,0 +1,2 @@
+-- The rules of marks and lines.
+pub mod Marks

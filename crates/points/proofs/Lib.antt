@@ -1,0 +1,2 @@
+-- Laws of points.
+mod Cases

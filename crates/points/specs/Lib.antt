@@ -1,0 +1,2 @@
+-- The rules of points.
+pub mod Points

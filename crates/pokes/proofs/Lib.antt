@@ -1,0 +1,2 @@
+-- Laws of the script's pokes.
+mod Cases

@@ -1,0 +1,2 @@
+-- The rules of the script's pokes.
+pub mod Pokes

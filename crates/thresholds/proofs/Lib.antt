@@ -1,0 +1,2 @@
+-- Laws of a patient's thresholds.
+mod Cases

@@ -1,0 +1,28 @@
+-- `thresholds::placed` meets its contract. Assumes nothing.
+use Rattle.thresholds.proofs.Cases.{placed-good, placed-wrong, fault-placed}
+use borrow.Author.Needs.{needs}
+use Rattle.thresholds.proofs.placed.Statement.{statement}
+use Rattle.thresholds.proofs.placed.Tie as tie
+
+at-requires : tie.Need-at-requires
+at-requires c κs = search needs
+
+fault-of-requires : tie.Need-fault-of-requires
+fault-of-requires c κs = search needs
+
+with-requires : tie.Need-with-requires
+with-requires c κs = search needs
+
+with-requires-2 : tie.Need-with-requires-2
+with-requires-2 c κs = search needs
+
+returns : tie.Need-returns
+returns c = placed-good _ _ _ _ _ _ (search fault-placed) _ _ (c .before .before .if1 .taken) (c .before .with .ensures) (c .with2 .ensures)
+
+returns-2 : tie.Need-returns-2
+returns-2 c = placed-wrong _ _ _ _ _ _ (search fault-placed) (c .if1 .left)
+
+pub placed-spec : {M : Type 1} → statement M
+placed-spec =
+    tie.close
+    (tie.spec at-requires fault-of-requires with-requires with-requires-2 returns returns-2)

@@ -1,0 +1,2 @@
+-- The rules of a patient's thresholds.
+pub mod Thresholds
