@@ -9,7 +9,7 @@ use lib.ListN.{length, getD, replicate}
 use Rattle.base.specs.Count
 use Rattle.units.specs.Parameters
 use Rattle.screen.specs.Limits
-use Rattle.registers.specs.Map
+use Rattle.map.specs.Map
 use Rattle.registers.specs.File
 use Rattle.memory.specs.Memory.{pixelShown}
 use Rattle.colour.specs.Colour.{maskedColour}

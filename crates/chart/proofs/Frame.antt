@@ -12,7 +12,7 @@ use Rattle.control.specs.Control.{running, forcedBlank, transferring, increment
 use Rattle.units.specs.Parameters
 use Rattle.screen.specs.Limits
 use Rattle.screen.specs.Totals
-use Rattle.registers.specs.Map
+use Rattle.map.specs.Map
 use Rattle.registers.specs.File
 use Rattle.registers.specs.declared.Registers.{Registers}
 use Rattle.pixel.specs.Dot.{dotAt, black}
