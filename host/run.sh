@@ -7,6 +7,8 @@ cd "$(dirname "$0")/.."
 . host/tools.sh
 
 mkdir -p "$out"
+# What the archives stand on is proved side by side first.
+rt check station lent >"$out/proved" 2>&1 || { cat "$out/proved" >&2; exit 1; }
 for archive in station lent; do
     rt staticlib "$archive" >"$out/staticlib" 2>&1 || { cat "$out/staticlib" >&2; exit 1; }
 done

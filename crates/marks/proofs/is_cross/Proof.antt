@@ -10,4 +10,4 @@ is-cross-spec =
     (λ c κs. search needs)
     (λ c κs. search needs)
     (λ c κs. search needs)
-    (λ c. cc))
+    (λ c. rw (c .apart3 .ensures, c .before .apart2 .ensures, c .before .before .apart .ensures)))

@@ -8,4 +8,4 @@ is-ring-spec =
     tie.close
     (tie.spec
     (λ c κs. search needs)
-    (λ c. cc))
+    (λ c. rw (c .distance .ensures)))

@@ -10,4 +10,4 @@ reach-spec =
     (λ c κs. search needs)
     (λ c κs. search needs)
     (λ c κs. search needs)
-    (λ c. cc))
+    (λ c. rw (c .pick .ensures, c .before .apart .ensures, c .before .before .less .ensures)))

@@ -12,4 +12,4 @@ distance-spec =
     (λ c κs. search needs)
     (λ c κs. search needs)
     (λ c. search needs)
-    (λ c. cc))
+    (λ c. rw (c .times2 .ensures .0, c .before .times .ensures .0, c .before .before .apart2 .ensures, c .before .before .before .apart .ensures)))
