@@ -21,7 +21,7 @@ first-requires-2 c κs = search needs
 
 returns : tie.Need-returns
 unfolding nineOf
-returns c = cc
+returns c = rw (c .first2 .ensures, c .before .before .first .ensures, c .before .before .before .before .read3 .ensures, c .before .before .before .before .before .read2 .ensures, c .before .before .before .before .before .before .read .ensures)
 
 pub nine-spec : {M : Type 1} → statement M
 nine-spec =

@@ -4,7 +4,7 @@ use Rattle.acts.proofs.size_of.Statement.{statement}
 use Rattle.acts.proofs.size_of.Tie as tie
 
 returns : tie.Need-returns
-returns c = cc
+returns c = rw (c .before .product .ensures, c .before .before .screen-of .ensures)
 
 pub size-of-spec : {M : Type 1} → statement M
 size-of-spec =

@@ -31,7 +31,7 @@ compare-requires : tie.Need-compare-requires
 compare-requires c κs = search needs
 
 returns : tie.Need-returns
-returns c = cc
+returns c = rw (c .compare .ensures, c .before .lent2 .ensures, c .before .before .before .lent .ensures, c .before .before .before .before .before .bytes-of2 .ensures, c .before .before .before .before .before .before .before .bytes-of .ensures)
 
 pub comparison-of-spec : {M : Type 1} → statement M
 comparison-of-spec =

@@ -25,7 +25,7 @@ field-requires : tie.Need-field-requires
 field-requires c κs = search needs
 
 returns : tie.Need-returns
-returns c = cc
+returns c = rw (c .field .ensures, c .before .lent .ensures, c .before .before .before .bytes-of .ensures, c .before .before .before .before .before .one-less .ensures)
 
 pub field-of-spec : {M : Type 1} → statement M
 field-of-spec =

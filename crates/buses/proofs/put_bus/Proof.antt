@@ -4,7 +4,7 @@ use Rattle.buses.proofs.put_bus.Statement.{statement}
 use Rattle.buses.proofs.put_bus.Tie as tie
 
 returns : tie.Need-returns
-returns c = (cc, cc)
+returns c = (rw (c .before .before .put-either .ensures .0, c .before .before .before .before .before .before .bus-text .ensures), rw (c .before .before .put-either .ensures .1, c .before .before .before .before .before .before .bus-text .ensures))
 
 pub put-bus-spec : {M : Type 1} → statement M
 put-bus-spec =

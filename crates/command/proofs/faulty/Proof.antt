@@ -10,7 +10,7 @@ no-numbers-requires-2 : tie.Need-no-numbers-requires-2
 no-numbers-requires-2 c κs = search needs
 
 returns : tie.Need-returns
-returns c = cc
+returns c = rw (c .no-numbers2 .ensures, c .before .no-numbers .ensures)
 
 pub faulty-spec : {M : Type 1} → statement M
 faulty-spec = tie.close (tie.spec no-numbers-requires no-numbers-requires-2 returns)

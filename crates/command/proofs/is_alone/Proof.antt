@@ -16,7 +16,7 @@ is-blank-at-requires : tie.Need-is-blank-at-requires
 is-blank-at-requires c κs = search needs
 
 returns : tie.Need-returns
-returns c = cc
+returns c = rw (c .is-blank-at .ensures, c .before .is-blank-before .ensures)
 
 pub is-alone-spec : {M : Type 1} → statement M
 is-alone-spec =

@@ -27,7 +27,7 @@ first-requires-2 c κs = search needs
 
 returns : tie.Need-returns
 unfolding restFault
-returns c = cc
+returns c = rw (c .first2 .ensures, c .before .first .ensures)
 
 pub rest-fault-spec : {M : Type 1} → statement M
 rest-fault-spec =

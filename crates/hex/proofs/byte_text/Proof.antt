@@ -13,7 +13,7 @@ glyph-requires-2 : tie.Need-glyph-requires-2
 glyph-requires-2 c κs = search needs
 
 returns : tie.Need-returns
-returns c = cc
+returns c = rw (c .glyph2 .ensures, c .before .glyph .ensures, c .before .before .wide .ensures .0)
 
 pub byte-text-spec : {M : Type 1} → statement M
 byte-text-spec = tie.close (tie.spec wide-requires glyph-requires glyph-requires-2 returns)

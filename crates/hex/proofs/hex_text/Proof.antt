@@ -22,7 +22,7 @@ glyph-requires-6 : tie.Need-glyph-requires-6
 glyph-requires-6 c κs = search needs
 
 returns : tie.Need-returns
-returns c = cc
+returns c = rw (c .glyph6 .ensures, c .before .glyph5 .ensures, c .before .before .glyph4 .ensures, c .before .before .before .glyph3 .ensures, c .before .before .before .before .glyph2 .ensures, c .before .before .before .before .before .glyph .ensures)
 
 pub hex-text-spec : {M : Type 1} → statement M
 hex-text-spec =

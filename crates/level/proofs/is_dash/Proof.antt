@@ -7,7 +7,7 @@ head-requires : tie.Need-head-requires
 head-requires c κs = search needs
 
 returns : tie.Need-returns
-returns c = cc
+returns c = rw (c .head .ensures)
 
 pub is-dash-spec : {M : Type 1} → statement M
 is-dash-spec = tie.close (tie.spec head-requires returns)

@@ -4,7 +4,7 @@ use Rattle.levels.proofs.levels_differ.Statement.{statement}
 use Rattle.levels.proofs.levels_differ.Tie as tie
 
 returns : tie.Need-returns
-returns c = cc
+returns c = rw (c .is-changed6 .ensures, c .before .is-changed5 .ensures, c .before .before .is-changed4 .ensures, c .before .before .before .is-changed3 .ensures, c .before .before .before .before .is-changed2 .ensures, c .before .before .before .before .before .is-changed .ensures)
 
 pub levels-differ-spec : {M : Type 1} → statement M
 levels-differ-spec =

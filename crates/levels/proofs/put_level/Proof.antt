@@ -4,7 +4,7 @@ use Rattle.levels.proofs.put_level.Statement.{statement}
 use Rattle.levels.proofs.put_level.Tie as tie
 
 returns : tie.Need-returns
-returns c = (cc, cc)
+returns c = (rw (c .before .before .put-either .ensures .0, c .before .before .before .before .before .before .level-text .ensures, c .before .before .before .before .before .before .before .is-changed .ensures), rw (c .before .before .put-either .ensures .1, c .before .before .before .before .before .before .level-text .ensures, c .before .before .before .before .before .before .before .is-changed .ensures))
 
 pub put-level-spec : {M : Type 1} → statement M
 put-level-spec =

@@ -7,7 +7,7 @@ head-requires : tie.Need-head-requires
 head-requires c κs = search needs
 
 returns : tie.Need-returns
-returns c = cc
+returns c = rw (c .head .ensures)
 
 pub is-silent-spec : {M : Type 1} → statement M
 is-silent-spec = tie.close (tie.spec head-requires returns)

@@ -4,7 +4,7 @@ use Rattle.report.proofs.count.Statement.{statement}
 use Rattle.report.proofs.count.Tie as tie
 
 returns : tie.Need-returns
-returns c = cc
+returns c = rw (c .one-more .ensures)
 
 pub count-spec : {M : Type 1} → statement M
 count-spec =

@@ -4,7 +4,7 @@ use Rattle.text.proofs.put_hex.Statement.{statement}
 use Rattle.text.proofs.put_hex.Tie as tie
 
 returns : tie.Need-returns
-returns c = (cc, (cc, search needs))
+returns c = (rw (c .before .before .put .ensures .0, c .before .before .before .before .before .hex-text .ensures), (rw (c .before .before .put .ensures .1 .0, c .before .before .before .before .before .hex-text .ensures), search needs))
 
 pub put-hex-spec : {M : Type 1} → statement M
 put-hex-spec =

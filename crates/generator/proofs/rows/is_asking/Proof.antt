@@ -12,4 +12,4 @@ is-asking-spec =
     (λ c κs. search needs)
     (λ c. search needs)
     (λ c. search needs)
-    (λ c. cc))
+    (λ c. rw (c .before .before .is-transferring .ensures)))

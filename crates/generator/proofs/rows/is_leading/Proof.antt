@@ -18,4 +18,4 @@ is-leading-spec =
     (λ c κs. search needs)
     (λ c κs. search needs)
     (λ c. omega (arith, c .before .before .number-of .ensures .1, c .before .before .before .before .before .before .before .before .before .pre .bounded .transferdelay .high))
-    (λ c. cc))
+    (λ c. rw (c .before .number-of2 .ensures .0, c .before .before .number-of .ensures .0)))

@@ -11,4 +11,4 @@ look-spec =
     (λ c. search needs)
     (λ c. search needs)
     (λ c. search needs)
-    (λ c. cc))
+    (λ c. rw (c .before .pixel-shown .ensures)))

@@ -9,4 +9,4 @@ rem-result : tie.Need-rem-result
 rem-result c = omega (arith, shift-period-positive (c .before .before .args .control))
 
 pub refuses-15-spec : {M : Type 1} → statement M
-refuses-15-spec = tie.close (tie.spec (λ c κs. search needs) (λ c. search needs) rem-result (λ c. cc))
+refuses-15-spec = tie.close (tie.spec (λ c κs. search needs) (λ c. search needs) rem-result (λ c. rw (c .before .shift-period .ensures)))
