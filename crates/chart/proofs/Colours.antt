@@ -8,7 +8,7 @@ use mathlib.Core.List.{List, [], _∷_, map}
 use lib.ListN.{length, getD, replicate}
 use Rattle.base.specs.Count
 use Rattle.units.specs.Parameters
-use Rattle.screen.specs.Limits
+use Rattle.limits.specs.Limits
 use Rattle.map.specs.Map
 use Rattle.registers.specs.File
 use Rattle.memory.specs.Memory.{pixelShown}

@@ -10,7 +10,7 @@ use Rattle.base.specs.Count
 use Rattle.base.proofs.Run.{run-entry}
 use Rattle.control.specs.Control.{running, forcedBlank, transferring, increment, pixelBits}
 use Rattle.units.specs.Parameters
-use Rattle.screen.specs.Limits
+use Rattle.limits.specs.Limits
 use Rattle.screen.specs.Totals
 use Rattle.map.specs.Map
 use Rattle.registers.specs.File

@@ -9,9 +9,9 @@ use lib.ListN.{getD, replicate, List·getD-eq-default}
 use Rattle.base.specs.Count.{run}
 use Rattle.base.proofs.Table.{entry}
 use Rattle.units.specs.Parameters.{screenOf}
-use Rattle.screen.specs.Limits.{limitOf, laterLimit, Accepted}
+use Rattle.limits.specs.Limits.{limitOf, laterLimit, Accepted}
 use Rattle.screen.specs.Totals.{totalsOf}
-use Rattle.screen.proofs.Laws.{accepted}
+use Rattle.limits.proofs.Laws.{accepted}
 use Rattle.registers.specs.File.{Held}
 use Rattle.registers.proofs.Laws.{zeros-held}
 use Rattle.generator.specs.Tick.{fresh}

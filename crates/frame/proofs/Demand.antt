@@ -14,7 +14,7 @@ use Rattle.base.proofs.Run.{run-length, run-append, run-same}
 use Rattle.control.specs.Control.{forcedBlank, transferring, increment, pixelBits}
 use Rattle.control.proofs.Laws.{increment-positive}
 use Rattle.units.specs.Parameters.{rowLength}
-use Rattle.screen.specs.Limits.{Accepted}
+use Rattle.limits.specs.Limits.{Accepted}
 use Rattle.screen.specs.Totals.{frameTicks, frameVisible, frameTransfers, framePixels, roundedUp}
 use Rattle.units.specs.declared.Screen.{Screen}
 use Rattle.registers.specs.declared.Registers.{Registers}

@@ -7,10 +7,10 @@ use native.Mathlib.Nat.{mul-le-mul-right, mul-pos, zero-mul}
 use native.Mathlib.Omega.{arith}
 use borrow.Author.Tests.{le-ltb, le-leb}
 use Rattle.units.specs.Parameters.{halfTicks, displayFrom, halvesToVBlank, halvesToVDisplay, halvesInFrame, rowLength}
-use Rattle.screen.specs.Limits.{Accepted}
+use Rattle.limits.specs.Limits.{Accepted}
 use Rattle.screen.specs.Totals.{frameTicks, frameVisible}
 use Rattle.units.specs.declared.Screen.{Screen}
-use Rattle.screen.proofs.Laws.{narrow}
+use Rattle.limits.proofs.Laws.{narrow}
 use Rattle.registers.specs.declared.Registers.{Registers}
 use Rattle.pixel.specs.declared.Sums.{Sums}
 use Rattle.lines.specs.Lines.{visible, tickNumber}

@@ -13,7 +13,7 @@ use Rattle.base.specs.Count.{some, run}
 use Rattle.base.proofs.Run.{run-append, run-same}
 use Rattle.control.specs.Control.{forcedBlank, transferring, increment, pixelBits}
 use Rattle.units.specs.Parameters.{halfTicks, halvesToVDisplay, rowLength}
-use Rattle.screen.specs.Limits.{Accepted}
+use Rattle.limits.specs.Limits.{Accepted}
 use Rattle.registers.specs.declared.Registers.{Registers}
 use Rattle.memory.specs.Memory.{endsBeyond}
 use Rattle.pixel.specs.Dot.{black}

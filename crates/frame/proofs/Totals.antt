@@ -5,7 +5,8 @@ use Prim.Native.Nat.{ℕ}
 use lib.ListN.{length}
 use Rattle.base.proofs.Run.{run-length}
 use Rattle.screen.specs.Totals.{frameTotals, framePixels, totalsOf}
-use Rattle.screen.proofs.Laws.{unrefused, totals-counted}
+use Rattle.limits.proofs.Laws.{unrefused}
+use Rattle.screen.proofs.Laws.{totals-counted}
 use Rattle.registers.specs.declared.Registers.{Registers}
 use Rattle.generator.specs.Rows.{screen}
 use Rattle.generator.specs.declared.Generator.{Generator}

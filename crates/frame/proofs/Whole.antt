@@ -11,7 +11,7 @@ use Rattle.base.specs.Count.{some, run}
 use Rattle.base.proofs.Run.{run-append}
 use Rattle.control.specs.Control.{running}
 use Rattle.units.specs.Parameters.{halfTicks, halvesToVDisplay, rowLength}
-use Rattle.screen.specs.Limits.{Accepted}
+use Rattle.limits.specs.Limits.{Accepted}
 use Rattle.screen.specs.Totals.{frameTicks, frameVisible}
 use Rattle.units.specs.declared.Screen.{Screen}
 use Rattle.registers.specs.declared.Registers.{Registers}

@@ -25,7 +25,7 @@ use Rattle.generator.specs.declared.Signals.{Signals}
 use Rattle.generator.specs.declared.Ticked.{Ticked}
 use Rattle.generator.specs.declared.rows.Stand.{Stand}
 use Rattle.units.specs.Parameters.{halfTicks}
-use Rattle.screen.proofs.Laws.{narrow}
+use Rattle.limits.proofs.Laws.{narrow}
 use Rattle.lines.specs.Lines.{visible, tickNumber, momentOf}
 use Rattle.generator.specs.Sound.{shownBefore}
 use Rattle.generator.proofs.Stands.{moment-opens}

@@ -10,7 +10,7 @@ use borrow.Author.Tests.{lt-ltb, le-ltb, le-leb, lt-leb, eq-eqb, ne-eqb, ltb-tru
 use lib.Dec.{ltb, leb}
 use Rattle.base.specs.Count.{count}
 use Rattle.units.specs.Parameters.{halfTicks, displayFrom, halvesToVBlank, halvesToVDisplay}
-use Rattle.screen.specs.Limits.{Accepted}
+use Rattle.limits.specs.Limits.{Accepted}
 use Rattle.units.specs.declared.Screen.{Screen}
 use Rattle.lines.specs.Lines.{period, isVDisplay, secondHalf, inLine, inDisplay, visible, tickNumber}
 use Rattle.generator.specs.Sound.{shownBefore}

@@ -9,9 +9,9 @@ use Rattle.control.specs.Control.{plain, forcedBlank, transferring, increment}
 use Rattle.control.proofs.Laws.{increment-positive}
 use Rattle.units.specs.Parameters.{rowLength, screenOf}
 use Rattle.screen.specs.Totals.{frameVisible}
-use Rattle.screen.specs.Limits.{Bounded}
+use Rattle.limits.specs.Limits.{Bounded}
 use Rattle.units.specs.declared.Screen.{Screen}
-use Rattle.screen.proofs.Laws.{narrow}
+use Rattle.limits.proofs.Laws.{narrow}
 use Rattle.registers.specs.declared.Registers.{Registers}
 use Rattle.lines.specs.Lines.{visible, opens, momentOf}
 use Rattle.lines.specs.declared.Moment.{Moment}

@@ -6,7 +6,7 @@ use mathlib.Core.Path.{_≡_}
 use Rattle.base.specs.Count.{count}
 use Rattle.control.specs.Control.{running, outside}
 use Rattle.units.specs.Parameters.{halfTicks, halvesInFrame}
-use Rattle.screen.specs.Limits.{Bounded, Accepted}
+use Rattle.limits.specs.Limits.{Bounded, Accepted}
 use Rattle.units.specs.declared.Screen.{Screen}
 use Rattle.registers.specs.File.{Held}
 use Rattle.registers.specs.declared.Registers.{Registers}

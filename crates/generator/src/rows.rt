@@ -4,7 +4,7 @@ ghost use mathlib.Core.Bool.{cond, _&&_};
 ghost use Prim.Native.Nat.{_+_, _*_, _/_, _%_, _^_, _≤_, _<_};
 ghost use lib.Dec.{ltb};
 ghost use Rattle.base.specs.Sum.{rolled};
-ghost use Rattle.screen.specs.Limits.{Bounded};
+ghost use Rattle.limits.specs.Limits.{Bounded};
 ghost use Rattle.generator.specs.Rows.{asks, leads, requestAt};
 ghost use Rattle.generator.specs.Sound.{Inside};
 ghost use Rattle.generator.specs.Stand.{Runs, Stands};

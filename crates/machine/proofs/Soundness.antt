@@ -7,8 +7,8 @@ use lib.Dec.{eqb}
 use borrow.Author.Tests.{eqb-true, not-false}
 use Rattle.control.specs.Control.{running, outside}
 use Rattle.units.specs.Parameters.{screenOf}
-use Rattle.screen.specs.Limits.{Accepted, limitOf}
-use Rattle.screen.proofs.Laws as limits
+use Rattle.limits.specs.Limits.{Accepted, limitOf}
+use Rattle.limits.proofs.Laws as limits
 use Rattle.map.specs.Map.{placeOf, isControl, isParameter}
 use Rattle.registers.specs.File.{zeros, storeIn}
 use Rattle.map.specs.declared.Place.{Place}

@@ -7,7 +7,7 @@ use mathlib.Core.Path.{_≡_, refl, sym, ap, _∙_}
 use lib.Dec.{eqb}
 use borrow.Author.Tests.{ne-eqb, eq-eqb, eqb-true}
 use Rattle.control.specs.Control.{running, outside}
-use Rattle.screen.specs.Limits.{limitOf}
+use Rattle.limits.specs.Limits.{limitOf}
 use Rattle.map.specs.Map.{placeOf, isChecksum, isReserved}
 use Rattle.registers.specs.File.{valueIn, storeIn}
 use Rattle.map.specs.declared.Place.the-variants.{Control}

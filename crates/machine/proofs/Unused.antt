@@ -8,7 +8,7 @@ use lib.Dec.{eqb}
 use Rattle.base.specs.Count.{some, run}
 use Rattle.base.proofs.Run.{run-same}
 use Rattle.control.specs.Control.{field, bit, running, plain, forcedBlank, transferring, cursorOn, outside, depth, increment}
-use Rattle.screen.specs.Limits.{laterLimit, limitOf}
+use Rattle.limits.specs.Limits.{laterLimit, limitOf}
 use Rattle.units.specs.declared.Screen.{Screen}
 use Rattle.registers.specs.declared.Registers.{Registers}
 use Rattle.memory.specs.Memory.{pixelShown}

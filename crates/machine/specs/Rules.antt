@@ -7,7 +7,7 @@ use lib.Dec.{ltb, eqb}
 use lib.ListN.{getD}
 use Rattle.base.specs.Count.{run}
 use Rattle.control.specs.Control.{running, outside}
-use Rattle.screen.specs.Limits.{limitOf}
+use Rattle.limits.specs.Limits.{limitOf}
 use Rattle.map.specs.Map.{placeOf, numberOf, isParameter, isControl, isChecksum, isReserved, widest}
 use Rattle.registers.specs.File.{zeros, valueIn, storeIn}
 use Rattle.map.specs.declared.Place.{Place}

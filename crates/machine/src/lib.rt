@@ -44,7 +44,7 @@ fn start_limit(r: Registers, p: Place, value: u32) -> u32
     let params = r.params;
     let s = units::screen_of(params);
     let checked = map::is_control(p) & control::is_running(value);
-    base::first(checked, screen::limit(value, s), 0)
+    base::first(checked, limits::limit(value, s), 0)
 }
 
 // The first of 2, 1, 3, 4 and 10 to 17 that holds of a write, or 0.

@@ -7,7 +7,7 @@ use lib.Dec.{leb}
 use Rattle.base.specs.Count.{some}
 use Rattle.control.specs.Control.{forcedBlank, transferring, increment, pixelBits}
 use Rattle.units.specs.Parameters.{rowLength}
-use Rattle.screen.specs.Limits.{Accepted}
+use Rattle.limits.specs.Limits.{Accepted}
 use Rattle.screen.specs.Totals.{frameVisible}
 use Rattle.registers.specs.declared.Registers.{Registers}
 use Rattle.memory.specs.Memory.{endsBeyond}

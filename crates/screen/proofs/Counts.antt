@@ -5,7 +5,7 @@ use native.Mathlib.Nat.{min-eq-left, mul-le-mul}
 use native.Mathlib.Omega.{arith}
 use Rattle.base.specs.Sum.{capped}
 use Rattle.units.specs.Parameters.{halfTicks, halvesInFrame, rowLength}
-use Rattle.screen.specs.Limits.{Bounded}
+use Rattle.limits.specs.Limits.{Bounded}
 use Rattle.screen.specs.Totals.{frameTicks, frameVisible, framePixels, roundedUp, frameTotals}
 use Rattle.units.specs.declared.ScreenUnits.{ScreenUnits}
 use Rattle.units.specs.declared.Pixels.{Pixels}

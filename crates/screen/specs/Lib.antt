@@ -1,3 +1,2 @@
--- The rules of a screen: limits and totals.
-pub mod Limits
+-- A frame's totals.
 pub mod Totals

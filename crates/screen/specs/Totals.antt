@@ -3,7 +3,7 @@ use Prim.Native.Nat.{ℕ, _+_, _-_, _*_, _/_}
 use mathlib.Core.Bool.{cond}
 use lib.Dec.{eqb}
 use Rattle.units.specs.Parameters.{halfTicks, halvesInFrame, rowLength}
-use Rattle.screen.specs.Limits.{limitOf}
+use Rattle.limits.specs.Limits.{limitOf}
 use Rattle.units.specs.declared.ScreenUnits.{ScreenUnits}
 use Rattle.units.specs.declared.Pixels.{Pixels}
 use Rattle.units.specs.declared.Screen.{Screen}

@@ -1,6 +1,6 @@
 // A frame's totals (01, "The bench screen and its neighbours"): ticks, visible ticks, transfers and pixels.
 ghost use mathlib.Core.Path.{_≡_};
-ghost use Rattle.screen.specs.Limits.{Bounded};
+ghost use Rattle.limits.specs.Limits.{Bounded};
 ghost use Rattle.screen.specs.Totals.{frameTotals, refused, totalsOf};
 use crate::Totals;
 use units::HalfLines;
@@ -34,7 +34,7 @@ fn count(s: Screen) -> Totals
 pub fn frame_totals(control: u32, s: Screen) -> Totals
     ensures totals { λ r. ⌜ r ≡ totalsOf control s ⌝ }
 {
-    let refusal = crate::limit(control, s);
+    let refusal = limits::limit(control, s);
     if refusal == 0 {
         return count(s);
     }

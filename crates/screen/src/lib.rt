@@ -1,9 +1,7 @@
-// A screen's limits and its totals (01, "Starting a screen", "Refusal numbers").
+// A screen's totals (01, "The bench screen and its neighbours"): the refusal, or what one frame comes to.
 mod frame;
-mod limits;
 
 pub use frame::frame_totals;
-pub use limits::limit;
 use units::Pixels;
 use units::ScreenUnits;
 

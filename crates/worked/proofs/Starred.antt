@@ -2,7 +2,7 @@
 use mathlib.Core.Path.{refl}
 use Rattle.base.specs.Count
 use Rattle.units.specs.Parameters
-use Rattle.screen.specs.Limits
+use Rattle.limits.specs.Limits
 use Rattle.screen.specs.Totals
 use Rattle.map.specs.Map
 use Rattle.registers.specs.File

@@ -6,7 +6,7 @@ use mathlib.Core.List.{List, [], _∷_}
 use mathlib.Core.Path.{_≡_}
 use lib.ListN.{length, set, replicate}
 use Rattle.units.specs.Parameters.{screenOf}
-use Rattle.screen.specs.Limits.{limitOf}
+use Rattle.limits.specs.Limits.{limitOf}
 use Rattle.screen.specs.Totals.{totalsOf}
 use Rattle.screen.specs.declared.Totals.{Totals}
 use Rattle.colour.specs.Colour.{maskedColour}

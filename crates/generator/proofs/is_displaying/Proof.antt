@@ -5,7 +5,7 @@ use mathlib.Core.Path.{_≡_, sym, ap, _∙_}
 use native.Mathlib.Omega.{arith}
 use borrow.Author.Needs.{needs}
 use Rattle.control.specs.Control.{running}
-use Rattle.screen.proofs.Laws.{narrow}
+use Rattle.limits.proofs.Laws.{narrow}
 use Rattle.registers.specs.declared.Registers.{Registers}
 use Rattle.lines.specs.Lines.{momentOf}
 use Rattle.lines.specs.declared.Moment.{Moment}

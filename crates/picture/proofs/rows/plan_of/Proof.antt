@@ -1,8 +1,8 @@
 -- `picture::rows::plan_of` meets its contract: 24 bits bound what is multiplied and added. Assumes nothing.
 use native.Mathlib.Omega.{arith}
 use borrow.Author.Needs.{needs}
-use Rattle.screen.specs.Limits.{Bounded}
-use Rattle.screen.proofs.Laws.{narrow}
+use Rattle.limits.specs.Limits.{Bounded}
+use Rattle.limits.proofs.Laws.{narrow}
 use Rattle.screen.proofs.Counts.{visible-fit}
 use Rattle.picture.specs.Plan.{planOf}
 use Rattle.picture.proofs.rows.plan_of.Statement.{statement}

@@ -1,6 +1,7 @@
 -- `screen::frame::frame_totals` meets its contract: where no limit is broken, 24 bits bound every parameter.
 use mathlib.Core.Path.{sym, _∙_}
-use Rattle.screen.proofs.Laws.{accepted, narrow, totals-counted, totals-refused}
+use Rattle.limits.proofs.Laws.{accepted, narrow}
+use Rattle.screen.proofs.Laws.{totals-counted, totals-refused}
 use borrow.Author.Needs.{needs}
 use Rattle.screen.proofs.frame.frame_totals.Statement.{statement}
 use Rattle.screen.proofs.frame.frame_totals.Tie as tie

@@ -1,10 +1,10 @@
--- `screen::limits::limit` meets its contract. Where 10 does not hold, the counts that the later refusals add up fit 24 bits.
+-- `limits::limit` meets its contract. Where 10 does not hold, the counts that the later refusals add up fit 24 bits.
 use mathlib.Core.Path.{sym, _∙_}
 use borrow.Author.Needs.{needs}
-use Rattle.screen.specs.Limits.{limitOf}
-use Rattle.screen.proofs.Laws.{bounded, narrow}
-use Rattle.screen.proofs.limits.limit.Statement.{statement}
-use Rattle.screen.proofs.limits.limit.Tie as tie
+use Rattle.limits.specs.Limits.{limitOf}
+use Rattle.limits.proofs.Laws.{bounded, narrow}
+use Rattle.limits.proofs.limit.Statement.{statement}
+use Rattle.limits.proofs.limit.Tie as tie
 
 pub limit-spec : {M : Type 1} → statement M
 unfolding limitOf

@@ -1,9 +1,9 @@
--- `screen::limits::refuses_15` meets its contract. The remainder is safe because a shift period is never 0.
+-- `limits::refuses_15` meets its contract. The remainder is safe because a shift period is never 0.
 use native.Mathlib.Omega.{arith}
 use borrow.Author.Needs.{needs}
 use Rattle.control.proofs.Laws.{shift-period-positive}
-use Rattle.screen.proofs.limits.refuses_15.Statement.{statement}
-use Rattle.screen.proofs.limits.refuses_15.Tie as tie
+use Rattle.limits.proofs.refuses_15.Statement.{statement}
+use Rattle.limits.proofs.refuses_15.Tie as tie
 
 rem-result : tie.Need-rem-result
 rem-result c = omega (arith, shift-period-positive (c .before .before .args .control))

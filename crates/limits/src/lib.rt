@@ -1,6 +1,6 @@
 // Refusals 10 to 17 (01, "Refusal numbers"). The first bounds every count that the later ones add up.
 ghost use mathlib.Core.Path.{_≡_};
-ghost use Rattle.screen.specs.Limits.{outOfRange, refuses10, refuses11, refuses12, refuses13, refuses14, refuses15, refuses16, refuses17, laterLimit, limitOf, Bounded};
+ghost use Rattle.limits.specs.Limits.{outOfRange, refuses10, refuses11, refuses12, refuses13, refuses14, refuses15, refuses16, refuses17, laterLimit, limitOf, Bounded};
 use units::Screen;
 
 // The largest screen parameter.

@@ -1,8 +1,8 @@
--- `screen::limits::later_limit` meets its contract: the chain from its last link to its first.
-use Rattle.screen.specs.Limits.{laterLimit}
+-- `limits::later_limit` meets its contract: the chain from its last link to its first.
+use Rattle.limits.specs.Limits.{laterLimit}
 use borrow.Author.Needs.{needs}
-use Rattle.screen.proofs.limits.later_limit.Statement.{statement}
-use Rattle.screen.proofs.limits.later_limit.Tie as tie
+use Rattle.limits.proofs.later_limit.Statement.{statement}
+use Rattle.limits.proofs.later_limit.Tie as tie
 
 pub later-limit-spec : {M : Type 1} → statement M
 unfolding laterLimit

@@ -1,0 +1,2 @@
+-- Laws that callers of `limits` use.
+pub mod Laws
