@@ -1,4 +1,4 @@
--- What the rules of the sheet come to, for callers: the tags' own rule, which sheets are accepted, and both round trips. Assumes nothing.
+-- What reading comes to, for callers: one field by its tag, and which sheets are accepted. Assumes nothing.
 use Prim.Native.Nat.{ℕ, zero, suc, _+_, _-_, _*_, _/_, _%_, _≤_, _<_}
 use mathlib.Core.Path.{_≡_, refl, _∙_}
 use mathlib.Core.Bool.{Bool, true, false, not, cond, _||_, true≢false}
@@ -8,53 +8,17 @@ use borrow.Author.Tests.{eq-eqb, le-ltb, ltb-false, eqb-true}
 use lib.Dec.{eqb, ltb, eqb→eq, eqb·suc-zero}
 use lib.ListN.{length, getD, drop, drop-of-length-le}
 use lib.Seq.{drop-cons, getD-drop}
-use Rattle.base.proofs.Table.{entry}
-use Rattle.sheet.specs.Encoding.{tags, fields, encoding, over, Bytes, Encodes}
+use Rattle.tags.proofs.Laws.{tag-rule}
+use Rattle.tags.specs.Encoding.{tags, fields, encoding, over, Bytes, Encodes}
 use Rattle.sheet.specs.Reader.{pair, fieldRefusal, refusalFrom, valuesFrom, readSheet, fieldOf}
-use Rattle.sheet.specs.Writer.{writeRefusal, written}
 use Rattle.sheet.specs.declared.Sheet.{Sheet}
 use Rattle.sheet.specs.declared.Answer.{Answer}
-
--- the tag of field k is #21 + k
-pub tag-rule : (k : ℕ) → k < 14 → getD tags k 0 ≡ 0x21 + k
-tag-rule k h = eqb→eq _ _ (entry (λ place tag. eqb tag (0x21 + place)) tags tt k h)
 
 -- the tag of field k asks for value k
 pub field-by-tag : (sheet : List ℕ) (k : ℕ) → k < 14 → _≡_ {A = Answer} (fieldOf sheet (getD tags k 0)) (record { refusal = readSheet sheet .refusal; value = getD (readSheet sheet .values) k 0 })
 field-by-tag sheet k h =
     let place : 0x21 + k - 0x21 ≡ k = omega arith in
     rw (tag-rule k h) (simp (le-ltb (0x21 + k) 0x21 (omega arith), le-ltb 0x2E (0x21 + k) (omega arith), place))
-
--- ---- the writer's tests
-neither : (a b : Bool) → (a || b) ≡ false → (a ≡ false) × (b ≡ false)
-neither false b e = (refl, e)
-neither true b e = absurd (true≢false e)
-
--- no value is over 65,535
-pub within : (values : List ℕ) → over values ≡ false → (k : ℕ) → getD values k 0 ≤ 65535
-unfolding over
-within [] e k = omega arith
-within (value ∷ values) e zero = omega (arith, ltb-false 65535 value (neither (ltb 65535 value) (over values) e .0))
-within (value ∷ values) e (suc k) = within values (neither (ltb 65535 value) (over values) e .1) k
-
-chosen : (a b : Bool) → _≡_ {A = ℕ} (cond a 34 (cond b 35 0)) 0 → (a ≡ false) × (b ≡ false)
-chosen false false e = (refl, refl)
-chosen false true e = absurd (omega (arith, e))
-chosen true b e = absurd (omega (arith, e))
-
--- a write is accepted only where no value is over and the room is large enough
-pub taken : (values room : List ℕ) → writeRefusal values room ≡ 0 → (over values ≡ false) × (70 ≤ length room)
-taken values room e = let both = chosen (over values) (ltb (length room) 70) e in (both .0, ltb-false _ _ (both .1))
-
-length-fields : (due values : List ℕ) → length values ≡ length due → length (fields due values) ≡ 5 * length due
-unfolding fields
-length-fields [] values e = refl
-length-fields (tag ∷ due) [] e = absurd (omega arith)
-length-fields (tag ∷ due) (value ∷ values) e = omega (arith, length-fields due values (omega arith))
-
--- a sheet has 70 bytes
-pub length-encoding : (values : List ℕ) → length values ≡ 14 → length (encoding values) ≡ 70
-length-encoding values e = length-fields tags values e
 
 -- ---- an encoding is accepted
 read-fields : (due values : List ℕ) → length values ≡ length due → (refusalFrom due (fields due values) ≡ 0) × (valuesFrom due (fields due values) ≡ values)
@@ -113,19 +77,3 @@ pub accepted-encoding : (sheet : List ℕ) → Bytes sheet → readSheet sheet .
 accepted-encoding sheet small e =
     let only = only-fields tags sheet small e in
     rw (eq-eqb (refusalFrom tags sheet) 0 e) (record { fourteen = only .0; small = only .1; bytes = only .2 })
-
--- ---- the two round trips
-accepted-written : (values room : List ℕ) → over values ≡ false → 70 ≤ length room → written values room ≡ encoding values ++ drop 70 room
-accepted-written values room small size = simp (small, le-ltb (length room) 70 size)
-
--- the values written into a room of 70 bytes are read back
-pub read-written : (values room : List ℕ) → length values ≡ 14 → over values ≡ false → length room ≡ 70 → _≡_ {A = Sheet} (readSheet (written values room)) (record { refusal = 0; values = values })
-read-written values room fourteen small size =
-    rw (accepted-written values room small (omega arith), drop-of-length-le room {i = 70} (omega arith), append-nil)
-    (encoding-accepted values (encoding values) (record { fourteen = fourteen; small = small; bytes = refl }))
-
--- the values of a good sheet, written into any room that takes them, are the sheet's bytes again
-pub written-read : (sheet room : List ℕ) → Bytes sheet → readSheet sheet .refusal ≡ 0 → 70 ≤ length room → written (readSheet sheet .values) room ≡ sheet ++ drop 70 room
-written-read sheet room small e size =
-    let whole = accepted-encoding sheet small e in
-    accepted-written (readSheet sheet .values) room (whole .small) size ∙ rw (whole .bytes)

@@ -1,4 +1,2 @@
--- The rules of the screen sheet.
-pub mod Encoding
+-- The rules of reading a sheet.
 pub mod Reader
-pub mod Writer

@@ -1,29 +1,9 @@
-// The screen sheet (01): its reader, its writer, and one field by its tag. Any bytes and any values may be given.
+// The reader of screen sheets (01, "Screen sheet"), and one field by its tag. Any bytes may be given.
 ghost use mathlib.Core.Path.{_≡_};
-ghost use Prim.Native.Nat.{_+_, _≤_, _<_};
-ghost use lib.ListN.{length, getD, drop};
-ghost use lib.Seq.{sets};
-ghost use Rattle.sheet.specs.Encoding.{tags, fieldBytes, over};
+ghost use Prim.Native.Nat.{_<_};
+ghost use lib.ListN.{getD, drop};
+ghost use Rattle.tags.specs.Encoding.{tags};
 ghost use Rattle.sheet.specs.Reader.{fieldRefusal, refusalFrom, valuesFrom, readSheet, fieldOf};
-ghost use Rattle.sheet.specs.Writer.{writeRefusal, written};
-
-// By field, in register order.
-const TAGS: [u8; 14] = [
-    0x21,
-    0x22,
-    0x23,
-    0x24,
-    0x25,
-    0x26,
-    0x27,
-    0x28,
-    0x29,
-    0x2A,
-    0x2B,
-    0x2C,
-    0x2D,
-    0x2E,
-];
 
 // What a sheet answers: a refusal, or 0 and the fourteen values.
 pub struct Sheet {
@@ -80,7 +60,7 @@ fn sheet_refusal(sheet: &[u8]) -> u32
     let mut refusal: u32 = 0;
     let mut i: usize = 0;
     while i < 14 {
-        let field = field_refusal(base::wide(TAGS[i]), left_from(sheet, 5 * i));
+        let field = field_refusal(base::wide(tags::tag_of(i)), left_from(sheet, 5 * i));
         refusal = base::first(refusal == 0, field, refusal);
         i += 1;
     }
@@ -140,47 +120,4 @@ pub fn field(sheet: &[u8], tag: u32) -> Answer
         refusal: whole.refusal,
         value: values[i],
     }
-}
-
-// Whether some value is over 65,535.
-fn is_over(values: [u32; 14]) -> bool
-    ensures over { λ r. ⌜ r ≡ over values ⌝ }
-{
-    let mut over = false;
-    let mut i: usize = 0;
-    while i < 14 {
-        over = over | (65535 < values[i]);
-        i += 1;
-    }
-    over
-}
-
-// One field stored from `at` on.
-fn put_field(room: &mut [u8], at: usize, tag: u8, value: u32)
-    requires fits { ⌜ (at + 5 ≤ length (now room)) × (value < 65536) ⌝ }
-    ensures bytes { λ _. ⌜ now (room .exit) ≡ sets (now (room .entry)) at (fieldBytes tag value) ⌝ }
-{
-    room[at] = tag;
-    room[at + 1] = 0;
-    room[at + 2] = 2;
-    room[at + 3] = (value / 256) as u8;
-    room[at + 4] = (value % 256) as u8;
-}
-
-// The sheet of fourteen values, written at the front of `room`; what stands past its 70 bytes is left alone.
-pub fn write(values: [u32; 14], room: &mut [u8]) -> u32
-    ensures refusal { λ r. ⌜ r ≡ writeRefusal values (now (room .entry)) ⌝ }
-    ensures bytes { λ _. ⌜ now (room .exit) ≡ written values (now (room .entry)) ⌝ }
-{
-    let over = is_over(values);
-    let small = base::first(room.len() < 70, 35, 0);
-    let refusal = base::first(over, 34, small);
-    if refusal == 0 {
-        let mut i: usize = 0;
-        while i < 14 {
-            put_field(room, 5 * i, TAGS[i], values[i]);
-            i += 1;
-        }
-    }
-    refusal
 }

@@ -4,7 +4,7 @@ use mathlib.Core.List.{List, append-nil}
 use mathlib.Core.Path.{_≡_, sym, ap, _∙_}
 use lib.ListN.{length, take, drop, drop-of-length-le}
 use lib.Seq.{take-all}
-use Rattle.sheet.specs.Writer.{writeRefusal, written}
+use Rattle.writer.specs.Writer.{writeRefusal, written}
 use Rattle.store.specs.Store.{writtenInto}
 
 module _ (values room : List ℕ) (count : ℕ) (h : length room ≤ count) where

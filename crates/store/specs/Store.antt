@@ -2,7 +2,7 @@
 use Prim.Native.Nat.{ℕ, _+_}
 use mathlib.Core.List.{List, _++_}
 use lib.ListN.{getD, take, drop, replicate}
-use Rattle.sheet.specs.Writer.{writeRefusal, written}
+use Rattle.writer.specs.Writer.{writeRefusal, written}
 use Rattle.room.specs.Room.{laid}
 use Rattle.command.specs.declared.Command.{Command}
 use Rattle.store.specs.declared.Stored.{Stored}

@@ -1,7 +1,7 @@
 // What `store` leaves: fourteen values written as a sheet.
 ghost use mathlib.Core.Path.{_≡_};
 ghost use lib.ListN.{length, getD, take};
-ghost use Rattle.sheet.specs.Writer.{writeRefusal};
+ghost use Rattle.writer.specs.Writer.{writeRefusal};
 ghost use Rattle.store.specs.Store.{sheetValues, writtenInto, storedOf};
 use command::Command;
 
@@ -32,9 +32,9 @@ fn written_into(values: [u32; 14], room: &mut [u8], count: usize) -> u32
     ensures bytes { λ _. ⌜ now (room .exit) ≡ writtenInto values (now (room .entry)) count ⌝ }
 {
     if count <= room.len() {
-        return sheet::write(values, &mut room[..count]);
+        return writer::write(values, &mut room[..count]);
     }
-    sheet::write(values, room)
+    writer::write(values, room)
 }
 
 // `store`: fourteen values as a sheet, in a room whose bytes are #AA before.

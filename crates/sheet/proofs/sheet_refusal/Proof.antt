@@ -6,7 +6,7 @@ use mathlib.Core.Bool.{cond}
 use native.Mathlib.Omega.{arith}
 use lib.Dec.{eqb}
 use lib.ListN.{drop}
-use Rattle.sheet.specs.Encoding.{tags}
+use Rattle.tags.specs.Encoding.{tags}
 use Rattle.sheet.specs.Reader.{refusalFrom}
 use Rattle.sheet.proofs.Cases.{judged, judged-all}
 use Rattle.sheet.proofs.sheet_refusal.Statement.{statement}
@@ -26,7 +26,7 @@ sheet-refusal-spec =
     Inv-loop
     μ-loop
     (λ c. (omega arith, refl))
-    (λ c. search needs)
+    (λ c κs. search needs)
     (λ c κs. search needs)
     (λ c. search needs)
     (λ c κs. search needs)
@@ -35,8 +35,8 @@ sheet-refusal-spec =
     (λ c. search needs)
     (λ c. search needs)
     (λ c.
-    let loop = c .before .before .before .before .before .loop in
-    (omega arith, judged _ (loop .i) (loop .refusal) _ (omega arith) (loop .inv .1) (c .first .result) (rw (c .first .ensures, c .before .field-refusal .ensures, c .before .before .left-from .ensures, c .before .before .before .wide .ensures .0))))
+    let loop = c .before .before .before .before .before .before .loop in
+    (omega arith, judged _ (loop .i) (loop .refusal) _ (omega arith) (loop .inv .1) (c .first .result) (rw (c .first .ensures, c .before .field-refusal .ensures, c .before .before .left-from .ensures, c .before .before .before .wide .ensures .0, c .before .before .before .before .tag-of .ensures))))
     (λ c κs. search needs)
     (λ c κs. search needs)
     (λ c κs. search needs)

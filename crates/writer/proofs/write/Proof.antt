@@ -1,16 +1,16 @@
--- `sheet::write` meets its contract. The loop keeps: the room, with the fields left stored behind those that stand, is the whole. Assumes nothing.
+-- `writer::write` meets its contract. The loop keeps: the room, with the fields left stored behind those that stand, is the whole. Assumes nothing.
 use borrow.Author.Needs.{needs}
 use Prim.Native.Nat.{_-_, _≤_, _*_}
 use mathlib.Core.Path.{_≡_, refl, _∙_, sym}
 use native.Mathlib.Omega.{arith}
 use lib.ListN.{length, drop}
 use lib.Seq.{sets}
-use Rattle.sheet.specs.Encoding.{tags, fields, encoding}
-use Rattle.sheet.specs.Writer.{writeRefusal}
-use Rattle.sheet.proofs.Cases.{stored, full, left-alone}
-use Rattle.sheet.proofs.Laws.{within, taken}
-use Rattle.sheet.proofs.write.Statement.{statement}
-use Rattle.sheet.proofs.write.Tie as tie
+use Rattle.tags.specs.Encoding.{tags, fields, encoding}
+use Rattle.writer.specs.Writer.{writeRefusal}
+use Rattle.writer.proofs.Cases.{stored, full, left-alone}
+use Rattle.writer.proofs.Laws.{within, taken}
+use Rattle.writer.proofs.write.Statement.{statement}
+use Rattle.writer.proofs.write.Tie as tie
 
 abbrev Inv-loop : tie.InvT-loop
 Inv-loop room₀ values over small refusal i₀ room i =
@@ -37,20 +37,20 @@ write-spec =
     (λ c κs. search needs)
     (λ c. (omega arith, refl, refl))
     (λ c. search needs)
-    (λ c. search needs)
+    (λ c κs. search needs)
     (λ c. search needs)
     (λ c. search needs)
     (λ c κs.
-    let begun = c .before .before .before in
+    let begun = c .before .before .before .before in
     let a = begun .before .before .before .before .before .args in
     let fits = taken (a .t1) (a .room .now) (accepted begun) in
-    (omega (arith, fits .1), omega (arith, within (a .t1) (fits .0) (c .before .before .loop .i))))
+    (omega (arith, fits .1), omega (arith, within (a .t1) (fits .0) (c .before .before .before .loop .i))))
     (λ c. search needs)
     (λ c. search needs)
     (λ c.
     let put = c .before .before in
-    let loop = put .before .before .before .loop in
-    (omega arith, put .put-field .kept .0 ∙ loop .inv .1, rw (put .put-field .ensures) (stored _ _ _ (loop .i) (omega arith) (omega arith) (loop .inv .2))))
+    let loop = put .before .before .before .before .loop in
+    (omega arith, put .put-field .kept .0 ∙ loop .inv .1, rw (put .put-field .ensures, put .before .tag-of .ensures) (stored _ _ _ (loop .i) (omega arith) (omega arith) (loop .inv .2))))
     (λ c. c .before .loop .inv .1)
     (λ c.
     let begun = c .before .before in

@@ -1,12 +1,12 @@
--- `sheet::put_field` meets its contract: five stores one after the other. Assumes nothing.
+-- `writer::put_field` meets its contract: five stores one after the other. Assumes nothing.
 use borrow.Author.Needs.{needs}
 use Prim.Native.Nat.{suc, _+_}
 use mathlib.Core.Path.{_≡_}
 use native.Mathlib.Numerals.{add-one}
 use native.Mathlib.Omega.{arith}
 use lib.ListN.{length-set}
-use Rattle.sheet.proofs.put_field.Statement.{statement}
-use Rattle.sheet.proofs.put_field.Tie as tie
+use Rattle.writer.proofs.put_field.Statement.{statement}
+use Rattle.writer.proofs.put_field.Tie as tie
 
 pub put-field-spec : {M : Type 1} → statement M
 put-field-spec =

@@ -4,7 +4,7 @@ use mathlib.Core.Bool.{cond}
 use mathlib.Core.List.{List, _++_}
 use lib.Dec.{ltb, eqb}
 use lib.ListN.{length, drop}
-use Rattle.sheet.specs.Encoding.{encoding, over}
+use Rattle.tags.specs.Encoding.{encoding, over}
 
 -- 34, then 35 for a room of fewer than 70 bytes; 0 is none
 abbrev pub writeRefusal : List ℕ → List ℕ → ℕ

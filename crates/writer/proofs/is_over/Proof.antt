@@ -1,14 +1,14 @@
--- `sheet::is_over` meets its contract. The loop keeps: what was found, or what is still to be found, is the whole. Assumes nothing.
+-- `writer::is_over` meets its contract. The loop keeps: what was found, or what is still to be found, is the whole. Assumes nothing.
 use borrow.Author.Needs.{needs}
 use Prim.Native.Nat.{_-_, _≤_}
 use mathlib.Core.Path.{_≡_, refl}
 use mathlib.Core.Bool.{_||_}
 use native.Mathlib.Omega.{arith}
 use lib.ListN.{drop}
-use Rattle.sheet.specs.Encoding.{over as some-over}
-use Rattle.sheet.proofs.Cases.{tested, finished}
-use Rattle.sheet.proofs.is_over.Statement.{statement}
-use Rattle.sheet.proofs.is_over.Tie as tie
+use Rattle.tags.specs.Encoding.{over as some-over}
+use Rattle.writer.proofs.Cases.{tested, finished}
+use Rattle.writer.proofs.is_over.Statement.{statement}
+use Rattle.writer.proofs.is_over.Tie as tie
 
 abbrev Inv-loop : tie.InvT-loop
 Inv-loop values over₀ i₀ over i = (i ≤ 14) × ((over || some-over (drop i values)) ≡ some-over values)

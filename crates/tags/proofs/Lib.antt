@@ -1,0 +1,2 @@
+-- Laws of the tags and of an encoding.
+pub mod Laws

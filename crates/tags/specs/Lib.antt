@@ -1,0 +1,2 @@
+-- The bytes of a sheet: its tags and its fields.
+pub mod Encoding

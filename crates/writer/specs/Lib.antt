@@ -1,0 +1,2 @@
+-- The rules of writing a sheet.
+pub mod Writer
