@@ -1,0 +1,7 @@
+-- `control::is_cursor_on` meets its contract.
+use mathlib.Core.Path.{refl}
+use Rattle.control.proofs.is_cursor_on.Statement.{statement}
+use Rattle.control.proofs.is_cursor_on.Tie as tie
+
+pub is-cursor-on-spec : {M : Type 1} → statement M
+is-cursor-on-spec = tie.close (tie.spec (λ c. refl))

@@ -1,0 +1,7 @@
+-- `control::is_transferring` meets its contract.
+use mathlib.Core.Path.{refl}
+use Rattle.control.proofs.is_transferring.Statement.{statement}
+use Rattle.control.proofs.is_transferring.Tie as tie
+
+pub is-transferring-spec : {M : Type 1} → statement M
+is-transferring-spec = tie.close (tie.spec (λ c. refl))
