@@ -14,6 +14,7 @@ use Rattle.registers.specs.File
 use Rattle.memory.specs.Memory.{pixelShown}
 use Rattle.colour.specs.Colour.{maskedColour}
 use Rattle.pixel.specs.Dot.{dotAt}
+use Rattle.access.specs.Access
 use Rattle.machine.specs.Rules
 use Rattle.ear.specs.Ear.{shows}
 use Rattle.audiogram.specs.Picture.{paperEntry, rightEntry, leftEntry, formEntry, entryAt, size, drawn}
@@ -29,7 +30,7 @@ settings-rows = refl
 
 -- the machine takes every write, from its beginning on, and starts
 pub settings-accepted : refusals Rules.beginning table ≡ replicate 21 0
-unfolding refusals Parameters.screenOf Limits.laterLimit Limits.limitOf Map.placeOf File.zeros File.valueIn File.storeIn Rules.startLimit Rules.writeRefusal Rules.stored Rules.written
+unfolding refusals Parameters.screenOf Limits.laterLimit Limits.limitOf Map.placeOf File.zeros File.valueIn File.storeIn Access.startLimit Access.writeRefusal Rules.stored Rules.written
 settings-accepted = refl
 
 -- the colour that the machine then has for an entry
@@ -38,7 +39,7 @@ colour entry = maskedColour (started .regs .palette) (started .regs .mask) entry
 
 -- right ear red, left ear blue, paper white, form grey
 pub started-colours : map colour (rightEntry ∷ leftEntry ∷ paperEntry ∷ formEntry ∷ []) ≡ 0xFF0000 ∷ 0x0000FF ∷ 0xFFFFFF ∷ 0x606060 ∷ []
-unfolding started writes maskedColour Parameters.screenOf Limits.laterLimit Limits.limitOf Map.placeOf File.zeros File.valueIn File.storeIn Rules.startLimit Rules.writeRefusal Rules.stored Rules.written
+unfolding started writes maskedColour Parameters.screenOf Limits.laterLimit Limits.limitOf Map.placeOf File.zeros File.valueIn File.storeIn Access.startLimit Access.writeRefusal Rules.stored Rules.written
 started-colours = refl
 
 red : colour rightEntry ≡ 0xFF0000
@@ -70,7 +71,7 @@ only-blue (suc (suc (suc (suc entry)))) h e = absurd (omega arith)
 
 -- how it reads memory: 2 bits a pixel, transfers on, cursor off
 started-control : started .regs .control ≡ 0x900001
-unfolding started writes Parameters.screenOf Limits.laterLimit Limits.limitOf Map.placeOf File.zeros File.valueIn File.storeIn Rules.startLimit Rules.writeRefusal Rules.stored Rules.written
+unfolding started writes Parameters.screenOf Limits.laterLimit Limits.limitOf Map.placeOf File.zeros File.valueIn File.storeIn Access.startLimit Access.writeRefusal Rules.stored Rules.written
 started-control = refl
 
 module _ (right left memory : List ℕ) (room : size ≤ length memory) (p : Point) (h : p .x < 640) (l : p .y < 480) where

@@ -19,6 +19,7 @@ use Rattle.pixel.specs.Dot.{dotAt, black}
 use Rattle.pixel.specs.declared.Dot.{Dot}
 use Rattle.generator.specs.Rows
 use Rattle.generator.specs.Tick
+use Rattle.access.specs.Access
 use Rattle.machine.specs.Rules
 use Rattle.machine.specs.declared.Machine.{Machine}
 use Rattle.machine.proofs.Soundness.{SoundMachine, beginning-sound, write-sound}
@@ -52,12 +53,12 @@ pub record Numbers (r : Registers) : Type 0 where
   pub unblanked : forcedBlank (r .control) ≡ false
 
 pub started-numbers : Numbers (started .regs)
-unfolding started writes Parameters.screenOf Limits.laterLimit Limits.limitOf Map.placeOf File.zeros File.valueIn File.storeIn Rules.startLimit Rules.writeRefusal Rules.stored Rules.written
+unfolding started writes Parameters.screenOf Limits.laterLimit Limits.limitOf Map.placeOf File.zeros File.valueIn File.storeIn Access.startLimit Access.writeRefusal Rules.stored Rules.written
 started-numbers =
     record { ticks = refl; pixels = refl; width = refl; first = refl; room = refl; last = refl; runs = refl; transfers = refl; unblanked = refl }
 
 started-start : Frame.AtStart (started .generator)
-unfolding started writes Parameters.screenOf Limits.laterLimit Limits.limitOf Map.placeOf File.zeros File.valueIn File.storeIn Rules.startLimit Rules.writeRefusal Rules.stored Rules.written
+unfolding started writes Parameters.screenOf Limits.laterLimit Limits.limitOf Map.placeOf File.zeros File.valueIn File.storeIn Access.startLimit Access.writeRefusal Rules.stored Rules.written
 started-start = record { half = refl; at = refl }
 
 started-sound : SoundMachine started

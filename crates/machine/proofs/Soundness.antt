@@ -1,28 +1,26 @@
 -- The one condition: true of the beginning, and kept by every call. Assumes nothing.
 use Prim.Native.Nat.{ℕ}
-use mathlib.Core.Bool.{Bool, true, false, not, cond, _&&_, true≢false}
+use mathlib.Core.Bool.{Bool, true, false, not, cond, true≢false}
 use mathlib.Core.List.{List}
 use mathlib.Core.Path.{_≡_, refl, sym, _∙_}
 use lib.Dec.{eqb}
 use borrow.Author.Tests.{eqb-true, not-false}
 use Rattle.control.specs.Control.{running, outside}
-use Rattle.units.specs.Parameters.{screenOf}
-use Rattle.limits.specs.Limits.{Accepted, limitOf}
+use Rattle.limits.specs.Limits.{Accepted}
 use Rattle.limits.proofs.Laws as limits
 use Rattle.map.specs.Map.{placeOf, isControl, isParameter}
 use Rattle.registers.specs.File.{zeros, storeIn}
 use Rattle.map.specs.declared.Place.{Place}
-use Rattle.registers.specs.declared.Registers.{Registers}
 use Rattle.map.proofs.Laws.{control-open}
 use Rattle.registers.proofs.Laws.{control-stored, control-kept, params-kept, zeros-held, stored-held}
 use Rattle.generator.specs.Rows.{screen}
 use Rattle.generator.specs.Tick.{fresh}
 use Rattle.generator.specs.Sound.{Sound, Placed}
-use Rattle.generator.specs.declared.Generator.{Generator}
 use Rattle.generator.proofs.Kept.{fresh-placed, tick-sound}
-use Rattle.machine.specs.Rules.{beginning, startLimit, starts, stored, writeRefusal, written, answered, advanced}
+use Rattle.access.specs.Access.{startLimit, writeRefusal}
+use Rattle.machine.specs.Rules.{beginning, starts, stored, written, answered, advanced}
 use Rattle.machine.specs.declared.Machine.{Machine}
-use Rattle.machine.proofs.Passed.{Passed, passed}
+use Rattle.access.proofs.Passed.{Passed, passed}
 
 abbrev pub SoundMachine : Machine → Type 0
 SoundMachine m = Sound (m .regs) (m .generator)

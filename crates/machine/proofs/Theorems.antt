@@ -3,13 +3,13 @@
 use Prim.Native.Nat.{ℕ, _≤_}
 use mathlib.Core.Bool.{Bool, true, false, not, cond, _&&_, _||_, true≢false}
 use mathlib.Core.List.{List, [], _∷_}
-use mathlib.Core.Path.{_≡_, refl, sym, ap, _∙_}
+use mathlib.Core.Path.{_≡_, refl, sym, _∙_}
 use lib.Dec.{eqb}
 use borrow.Author.Tests.{ne-eqb, eq-eqb, eqb-true}
 use Rattle.control.specs.Control.{running, outside}
 use Rattle.limits.specs.Limits.{limitOf}
-use Rattle.map.specs.Map.{placeOf, isChecksum, isReserved}
-use Rattle.registers.specs.File.{valueIn, storeIn}
+use Rattle.map.specs.Map.{placeOf, isReserved}
+use Rattle.registers.specs.File.{valueIn}
 use Rattle.map.specs.declared.Place.the-variants.{Control}
 use Rattle.registers.specs.declared.Registers.{Registers}
 use Rattle.map.proofs.Laws.{address-single}
@@ -17,10 +17,11 @@ use Rattle.registers.proofs.Laws.{kept, back}
 use Rattle.generator.specs.Rows.{screen}
 use Rattle.generator.specs.Tick.{fresh, tickRefusal, tickOf, silent}
 use Rattle.generator.specs.declared.Generator.{Generator}
-use Rattle.machine.specs.Rules.{startLimit, writeRefusal, stored, written, readRefusal, valueAt, answered, advanced}
+use Rattle.access.specs.Access.{startLimit, writeRefusal}
+use Rattle.machine.specs.Rules.{stored, written, readRefusal, valueAt, answered, advanced}
 use Rattle.machine.specs.Calls.{Call, write, read, tick, after, afterAll, Spares, Untouched}
 use Rattle.machine.specs.declared.Machine.{Machine}
-use Rattle.machine.proofs.Passed.{Passed, passed, accepted}
+use Rattle.access.proofs.Passed.{Passed, passed, accepted}
 use Rattle.machine.proofs.Soundness.{SoundMachine}
 
 -- ---- a refused call leaves the machine as it was, and answers 0 for all else

@@ -1,19 +1,16 @@
 -- The machine's calls (01, "Starting a screen", "Refusal numbers"): what a write, a read and a tick answer, and the machine after.
 -- Assumes nothing.
-use Prim.Native.Nat.{ℕ, _/_, _%_, _^_}
-use mathlib.Core.Bool.{Bool, not, cond, _&&_, _||_}
+use Prim.Native.Nat.{ℕ}
+use mathlib.Core.Bool.{Bool, not, cond, _&&_}
 use mathlib.Core.List.{List}
-use lib.Dec.{ltb, eqb}
+use lib.Dec.{eqb}
 use lib.ListN.{getD}
-use Rattle.base.specs.Count.{run}
-use Rattle.control.specs.Control.{running, outside}
-use Rattle.limits.specs.Limits.{limitOf}
-use Rattle.map.specs.Map.{placeOf, numberOf, isParameter, isControl, isChecksum, isReserved, widest}
+use Rattle.control.specs.Control.{running}
+use Rattle.map.specs.Map.{placeOf, numberOf, isControl, isChecksum, isReserved}
 use Rattle.registers.specs.File.{zeros, valueIn, storeIn}
+use Rattle.access.specs.Access.{refuses3, writeRefusal, checksumWords}
 use Rattle.map.specs.declared.Place.{Place}
 use Rattle.registers.specs.declared.Registers.{Registers}
-use Rattle.colour.specs.Colour.{colourOf}
-use Rattle.pixel.specs.declared.Sums.{Sums}
 use Rattle.generator.specs.Rows.{screen}
 use Rattle.generator.specs.Tick.{displaying, tickOf, fresh}
 use Rattle.machine.specs.declared.Machine.{Machine}
@@ -26,35 +23,6 @@ abbrev pub beginning : Machine
 beginning = record { regs = zeros; generator = fresh }
 
 -- ---- writing
-
--- 2: a reserved address, or a checksum written
-abbrev pub writeRefuses2 : Place → Bool
-writeRefuses2 p = isReserved p || isChecksum p
-
--- 1: a value over what the place holds
-abbrev pub writeRefuses1 : Place → ℕ → Bool
-writeRefuses1 p value = ltb (widest p) value
-
--- 3: #021 to #02E touched while running
-abbrev pub refuses3 : Registers → Place → Bool
-refuses3 r p = isParameter p && running (r .control)
-
--- 4: a control mode that is not in the build
-abbrev pub writeRefuses4 : Place → ℕ → Bool
-writeRefuses4 p value = isControl p && outside value
-
--- a control write with bit 0 set is then checked, as the new value stands, for 10 to 17
-unfoldable pub startLimit : Registers → Place → ℕ → ℕ
-startLimit r p value = cond (isControl p && running value) (limitOf value (screen r)) 0
-
--- the order for a write: 2, 1, 3, 4, then 10 to 17
-unfoldable pub writeRefusal : Registers → Place → ℕ → ℕ
-writeRefusal r p value =
-    cond (writeRefuses2 p) 2
-    (cond (writeRefuses1 p value) 1
-    (cond (refuses3 r p) 3
-    (cond (writeRefuses4 p value) 4
-    (startLimit r p value))))
 
 -- bit 0 of control A goes from 0 to 1
 abbrev pub starts : Registers → Place → ℕ → Bool
@@ -82,13 +50,6 @@ refuses5 m p = isChecksum p && displaying (m .regs) (m .generator)
 -- the order for a read: 2, 3, 5
 unfoldable pub readRefusal : Machine → Place → ℕ
 readRefusal m p = cond (isReserved p) 2 (cond (refuses3 (m .regs) p) 3 (cond (refuses5 m p) 5 0))
-
--- #0C0 holds the three low bytes, #0C1 the middle, #0C2 the high ones, red leftmost
-abbrev pub byteOf : ℕ → ℕ → ℕ
-byteOf k sum = sum / 256 ^ k % 256
-
-unfoldable pub checksumWords : Sums → List ℕ
-checksumWords sums = run (λ k. colourOf (byteOf k (sums .red)) (byteOf k (sums .green)) (byteOf k (sums .blue))) 0 3
 
 unfoldable pub valueAt : Machine → Place → ℕ
 valueAt m p = cond (isChecksum p) (getD (checksumWords (m .generator .sums)) (numberOf p) 0) (valueIn (m .regs) p)

@@ -1,8 +1,8 @@
--- `machine::write_refusal` meets its contract: the chain 2, 1, 3, 4, then 10 to 17.
-use Rattle.machine.specs.Rules.{writeRefusal}
+-- `access::write_refusal` meets its contract: the chain 2, 1, 3, 4, then 10 to 17.
+use Rattle.access.specs.Access.{writeRefusal}
 use borrow.Author.Needs.{needs}
-use Rattle.machine.proofs.write_refusal.Statement.{statement}
-use Rattle.machine.proofs.write_refusal.Tie as tie
+use Rattle.access.proofs.write_refusal.Statement.{statement}
+use Rattle.access.proofs.write_refusal.Tie as tie
 
 pub write-refusal-spec : {M : Type 1} → statement M
 unfolding writeRefusal

@@ -1,8 +1,8 @@
--- `machine::start_limit` meets its contract: the limits under the new control value.
-use Rattle.machine.specs.Rules.{startLimit}
+-- `access::start_limit` meets its contract: the limits under the new control value.
+use Rattle.access.specs.Access.{startLimit}
 use borrow.Author.Needs.{needs}
-use Rattle.machine.proofs.start_limit.Statement.{statement}
-use Rattle.machine.proofs.start_limit.Tie as tie
+use Rattle.access.proofs.start_limit.Statement.{statement}
+use Rattle.access.proofs.start_limit.Tie as tie
 
 pub start-limit-spec : {M : Type 1} → statement M
 unfolding startLimit

@@ -1,13 +1,13 @@
 -- What a write that gets no refusal has passed, and what passes gets none: the laws by which proofs use the chain. Assumes nothing.
 use Prim.Native.Nat.{ℕ, suc, _≤_}
-use mathlib.Core.Bool.{Bool, true, false, cond, _&&_, _||_, true≢false}
+use mathlib.Core.Bool.{Bool, true, false, cond, true≢false}
 use mathlib.Core.Path.{_≡_, refl}
 use native.Mathlib.Omega.{arith}
 use borrow.Author.Tests.{ltb-false, le-ltb}
 use Rattle.map.specs.Map.{widest}
 use Rattle.map.specs.declared.Place.{Place}
 use Rattle.registers.specs.declared.Registers.{Registers}
-use Rattle.machine.specs.Rules.{writeRefuses2, writeRefuses1, refuses3, writeRefuses4, startLimit, writeRefusal}
+use Rattle.access.specs.Access.{writeRefuses2, writeRefuses1, refuses3, writeRefuses4, startLimit, writeRefusal}
 
 pub record Passed (r : Registers) (p : Place) (value : ℕ) : Type 0 where
   pub opened : writeRefuses2 p ≡ false

@@ -1,0 +1,3 @@
+-- Laws of the chain of a write, and of the checksum words.
+pub mod Passed
+mod Words

@@ -1,0 +1,2 @@
+-- The rules of register writes, and the checksum words.
+pub mod Access
