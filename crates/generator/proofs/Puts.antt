@@ -87,11 +87,11 @@ module _ (r : Registers) (m : List ℕ) (g : Generator) (t : Stand) (st : Stands
   sums-by four e before after out eb ea eo = eo ∙ rw (ea, four-at four e before, e, eb, st .shows-is, moment-opens r g t st)
 
 -- the generator after the tick, from what its parts answer
-pub next-by : (r : Registers) (g : Generator) (t : Stand) → Stands r g t → (sums : Sums) (asking asked : Bool) (more seen : ℕ) → more ≡ cond (t .moment .visible) (g .seen .0 + 1) (g .seen .0) → asking ≡ asks (r .control) (t .screen) (g .seen .0) →
-    seen ≡ cond (t .moment .closes) 0 more → asked ≡ cond (t .moment .visible) asking (g .asked) →
+pub next-by : (r : Registers) (g : Generator) (t : Stand) → Stands r g t → (sums : Sums) (asked : Bool) (more seen : ℕ) → more ≡ cond (t .moment .visible) (g .seen .0 + 1) (g .seen .0) →
+    seen ≡ cond (t .moment .closes) 0 more → asked ≡ cond (t .moment .visible) (t .asking) (g .asked) →
     _≡_ {A = Generator} (record { half = record { 0 = t .moment .half }; at = record { 0 = t .moment .at }; seen = record { 0 = seen }; held = t .held; asked = asked; sums = sums }) (stepWith r g sums)
 unfolding stepWith seenAfter visibleAt momentOf
-next-by r g t st sums asking asked more seen em ea es ek = rw (es, ek, em, ea, st .moment-is, st .screen-is, st .held-is)
+next-by r g t st sums asked more seen em es ek = rw (es, ek, em, st .asking-is, st .moment-is, st .held-is)
 
 -- every signal, from what its parts answer
 pub signals-by : (r : Registers) (g : Generator) (t : Stand) → Stands r g t → (four : List Dot) (request on : Bool) (address : ℕ) → request ≡ requestAt r g → on ≡ transferring (r .control) → address ≡ cond (on && t .transfer) (t .held) 0 →

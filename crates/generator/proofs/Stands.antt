@@ -12,6 +12,7 @@ use Rattle.screen.specs.Totals.{frameVisible}
 use Rattle.limits.specs.Limits.{Bounded}
 use Rattle.units.specs.declared.Screen.{Screen}
 use Rattle.limits.proofs.Laws.{narrow}
+use Rattle.request.specs.Request.{asking, requested}
 use Rattle.registers.specs.declared.Registers.{Registers}
 use Rattle.lines.specs.Lines.{visible, opens, momentOf}
 use Rattle.lines.specs.declared.Moment.{Moment}
@@ -34,7 +35,7 @@ row-some s b = omega arith
 pub row-most : (s : Screen) → Bounded 0xFFFFFF s → rowLength s ≤ 2 ^ 26
 row-most s b = omega arith
 
-module _ (r : Registers) (g : Generator) (k : Runs r g) (s : Screen) (es : s ≡ screen r) (n : Moment) (l b : Bool) (i t h p : ℕ)
+module _ (r : Registers) (g : Generator) (k : Runs r g) (s : Screen) (es : s ≡ screen r) (n : Moment) (l b on a : Bool) (i t h p : ℕ)
     (el : l ≡ plain (r .control))
     (en : n ≡ momentOf (screen r) l (g .half .0) (g .at .0))
     (ei : i ≡ increment (r .control))
@@ -42,7 +43,9 @@ module _ (r : Registers) (g : Generator) (k : Runs r g) (s : Screen) (es : s ≡
     (eh : h ≡ cond ((n .visible && eqb (g .seen .0 % rowLength s) 0) && ltb 0 (g .seen .0)) (rolled t i) t)
     (eb : b ≡ forcedBlank (r .control))
     (ep : p ≡ (h / i * rowLength s + g .seen .0 % rowLength s) * 4 + 0)
-    (pl : p < 2 ^ 60) where
+    (pl : p < 2 ^ 60)
+    (eo : on ≡ transferring (r .control))
+    (ea : a ≡ asking on (s .meminit .0) (s .transferdelay .0) (g .seen .0)) where
   moment-is : n ≡ momentOf (screen r) (plain (r .control)) (g .half .0) (g .at .0)
   moment-is = en ∙ rw el
 
@@ -66,6 +69,10 @@ module _ (r : Registers) (g : Generator) (k : Runs r g) (s : Screen) (es : s ≡
   unfolding heldAddress
   held-is = eh ∙ rw (transfer-is, taken-is, ei)
 
+  asking-is : a ≡ asks (r .control) (screen r) (g .seen .0)
+  unfolding asks
+  asking-is = ea ∙ rw (eo, es)
+
   shows-is : (n .visible && not b) ≡ shows r g
   unfolding shows
   shows-is = rw (visible-is, eb)
@@ -74,7 +81,7 @@ module _ (r : Registers) (g : Generator) (k : Runs r g) (s : Screen) (es : s ≡
   unfolding place
   place-is = ep ∙ rw (held-is, ei, es)
 
-  pub stands : Stands r g (record { screen = s; moment = n; transfer = n .visible && eqb (g .seen .0 % rowLength s) 0; held = h; shows = n .visible && not b; place = p })
+  pub stands : Stands r g (record { screen = s; moment = n; transfer = n .visible && eqb (g .seen .0 % rowLength s) 0; held = h; asking = a; shows = n .visible && not b; place = p })
   stands =
       record {
         screen-is = es;
@@ -82,6 +89,7 @@ module _ (r : Registers) (g : Generator) (k : Runs r g) (s : Screen) (es : s ≡
         moment-is = moment-is;
         transfer-is = transfer-is;
         held-is = held-is;
+        asking-is = asking-is;
         shows-is = shows-is;
         place-is = place-is;
         place-in = pl;
@@ -98,7 +106,7 @@ module _ (r : Registers) (g : Generator) (t : Stand) (st : Stands r g t) where
   moment-opens = ap (λ (x : Moment). x .opens) (st .moment-is)
 
 -- the request, from what its parts answer
-pub request-by : (r : Registers) (g : Generator) (t : Stand) → Stands r g t → (leading asking kept on out : Bool) → leading ≡ leads (t .screen) (g .half .0) (g .at .0) → asking ≡ asks (r .control) (t .screen) (g .seen .0) →
-    kept ≡ cond (eqb (g .seen .0) 0) leading (ltb (g .seen .0) (frameVisible (t .screen)) && g .asked) → on ≡ transferring (r .control) → out ≡ cond (t .moment .visible) asking kept → (on && out) ≡ requestAt r g
+pub request-by : (r : Registers) (g : Generator) (t : Stand) → Stands r g t → (leading on out : Bool) → leading ≡ leads (t .screen) (g .half .0) (g .at .0) → on ≡ transferring (r .control) →
+    out ≡ requested on (t .moment .visible) (t .asking) leading (g .seen .0) (frameVisible (t .screen)) (g .asked) → out ≡ requestAt r g
 unfolding requestAt
-request-by r g t st leading asking kept on out el ea ek en eo = rw (eo, en, ek, el, ea, moment-visible r g t st, st .screen-is)
+request-by r g t st leading on out el en eo = eo ∙ rw (en, el, st .asking-is, moment-visible r g t st, st .screen-is)

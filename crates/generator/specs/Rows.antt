@@ -7,6 +7,7 @@ use Rattle.base.specs.Sum.{rolled}
 use Rattle.control.specs.Control.{transferring, increment}
 use Rattle.units.specs.Parameters.{screenOf, halfTicks, displayFrom, halvesToVDisplay, rowLength}
 use Rattle.screen.specs.Totals.{frameVisible}
+use Rattle.request.specs.Request.{asking, requested}
 use Rattle.units.specs.declared.Screen.{Screen}
 use Rattle.registers.specs.declared.Registers.{Registers}
 use Rattle.lines.specs.Lines.{visible, opens, tickNumber}
@@ -42,9 +43,9 @@ rowNumber r address = address / increment (r .control)
 unfoldable pub place : Registers → ℕ → ℕ → ℕ → ℕ
 place r address v k = (rowNumber r address * rowLength (screen r) + v % rowLength (screen r)) * 4 + k
 
--- the request at visible tick v, which is kept between lines: transfers are on, and v mod R is at least MemInit
+-- the request at visible tick v
 unfoldable pub asks : ℕ → Screen → ℕ → Bool
-asks control s v = transferring control && leb (s .meminit .0) (v % rowLength s)
+asks control s v = asking (transferring control) (s .meminit .0) (s .transferdelay .0) v
 
 -- the number of the frame's first visible tick
 abbrev pub firstVisible : Screen → ℕ
@@ -55,10 +56,8 @@ unfoldable pub leads : Screen → ℕ → ℕ → Bool
 leads s half at =
     ltb (tickNumber s half at) (firstVisible s) && leb (firstVisible s) (tickNumber s half at + s .transferdelay .0)
 
--- with transfers off now the request is low; between lines it keeps its value at the visible tick before; after the frame's last visible tick it is low
+-- the request, by its own rule
 unfoldable pub requestAt : Registers → Generator → Bool
 requestAt r g =
-    transferring (r .control)
-    && cond (visibleAt r g) (asks (r .control) (screen r) (g .seen .0))
-    (cond (eqb (g .seen .0) 0) (leads (screen r) (g .half .0) (g .at .0))
-    (ltb (g .seen .0) (frameVisible (screen r)) && g .asked))
+    requested (transferring (r .control)) (visibleAt r g) (asks (r .control) (screen r) (g .seen .0))
+    (leads (screen r) (g .half .0) (g .at .0)) (g .seen .0) (frameVisible (screen r)) (g .asked)

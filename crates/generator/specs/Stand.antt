@@ -6,7 +6,7 @@ use Rattle.control.specs.Control.{running, plain}
 use Rattle.limits.specs.Limits.{Accepted}
 use Rattle.registers.specs.declared.Registers.{Registers}
 use Rattle.lines.specs.Lines.{momentOf}
-use Rattle.generator.specs.Rows.{screen, transferAt, heldAddress, place}
+use Rattle.generator.specs.Rows.{screen, transferAt, heldAddress, place, asks}
 use Rattle.generator.specs.Tick.{shows}
 use Rattle.generator.specs.Sound.{Placed, Inside}
 use Rattle.generator.specs.declared.Generator.{Generator}
@@ -25,6 +25,7 @@ pub record Stands (r : Registers) (g : Generator) (t : Stand) : Type 0 where
   pub moment-is : t .moment ≡ momentOf (screen r) (plain (r .control)) (g .half .0) (g .at .0)
   pub transfer-is : t .transfer ≡ transferAt r g
   pub held-is : t .held ≡ heldAddress r g
+  pub asking-is : t .asking ≡ asks (r .control) (screen r) (g .seen .0)
   pub shows-is : t .shows ≡ shows r g
   pub place-is : t .place ≡ place r (heldAddress r g) (g .seen .0) 0
   pub place-in : t .place < 2 ^ 60

@@ -89,13 +89,12 @@ pub fn next_of(r: Registers, g: Generator, t: Stand, sums: Sums) -> Generator
     let m = t.moment;
     let seen = g.seen.0;
     let more = base::choose(m.visible, seen + 1, seen);
-    let asking = crate::rows::is_asking(r.control, t.screen, seen);
     Generator {
         half: HalfLines(m.half),
         at: ScreenUnits(m.at),
         seen: ScreenUnits(base::choose(m.closes, 0, more)),
         held: t.held,
-        asked: base::level(m.visible, asking, g.asked),
+        asked: base::level(m.visible, t.asking, g.asked),
         sums,
     }
 }

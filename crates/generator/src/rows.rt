@@ -4,8 +4,7 @@ ghost use mathlib.Core.Bool.{cond, _&&_};
 ghost use Prim.Native.Nat.{_+_, _*_, _/_, _%_, _^_, _≤_, _<_};
 ghost use lib.Dec.{ltb};
 ghost use Rattle.base.specs.Sum.{rolled};
-ghost use Rattle.limits.specs.Limits.{Bounded};
-ghost use Rattle.generator.specs.Rows.{asks, leads, requestAt};
+ghost use Rattle.generator.specs.Rows.{leads, requestAt};
 ghost use Rattle.generator.specs.Sound.{Inside};
 ghost use Rattle.generator.specs.Stand.{Runs, Stands};
 use crate::Generator;
@@ -18,6 +17,7 @@ pub struct Stand {
     pub moment: Moment,
     pub transfer: bool,
     pub held: u32,
+    pub asking: bool,
     pub shows: bool,
     pub place: u64,
 }
@@ -58,23 +58,17 @@ pub fn stand_of(r: Registers, g: Generator) -> Stand
     let held = held_of(taken, transfer & (0 < seen), increment);
     let blank = control::is_forced_blank(r.control);
     let place = place_of(held, increment, row, seen);
+    let on = control::is_transferring(r.control);
+    let asking = request::is_asking(on, s.meminit.0 as u32, s.transferdelay.0 as u32, seen);
     Stand {
         screen: s,
         moment,
         transfer,
         held,
+        asking,
         shows: moment.visible & !blank,
         place,
     }
-}
-
-// The request at visible tick v.
-pub fn is_asking(control: u32, s: Screen, v: u64) -> bool
-    requires { ⌜ Bounded 0xFFFFFF s ⌝ }
-    ensures test { λ b. ⌜ b ≡ asks control s v ⌝ }
-{
-    let on = control::is_transferring(control);
-    on & (s.meminit.0 <= v % (s.meminit.0 + s.transferdelay.0))
 }
 
 // A tick's number in the frame, from its half line and its number there.
@@ -108,8 +102,6 @@ pub fn is_request(r: Registers, g: Generator, t: Stand) -> bool
     let seen = g.seen.0;
     let all = s.display.0 * (s.vdisplay.0 / 2);
     let leading = is_leading(s, g.half.0, g.at.0);
-    let asking = is_asking(r.control, s, seen);
-    let kept = base::level(seen == 0, leading, (seen < all) & g.asked);
     let on = control::is_transferring(r.control);
-    on & base::level(t.moment.visible, asking, kept)
+    request::is_requested(on, t.moment.visible, t.asking, leading, seen, all, g.asked)
 }

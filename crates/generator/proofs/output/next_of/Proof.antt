@@ -13,11 +13,9 @@ next-of-spec =
     (λ c κs. search needs)
     (λ c κs. search needs)
     (λ c κs. search needs)
-    (λ c κs. search needs)
     (λ c.
-    let start = c .before .before .before .before .before in
-    next-by (start .args .r) (start .args .g) (start .args .t) (start .pre .1) (start .args .sums) _ _ _ _
-    (c .before .before .before .choose .ensures)
-    (c .before .before .is-asking .ensures)
+    let start = c .before .before .before .before in
+    next-by (start .args .r) (start .args .g) (start .args .t) (start .pre .1) (start .args .sums) _ _ _
+    (c .before .before .choose .ensures)
     (c .before .choose2 .ensures)
     (c .level .ensures)))

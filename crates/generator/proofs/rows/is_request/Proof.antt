@@ -14,14 +14,10 @@ is-request-spec =
     (λ c κs. search needs)
     (λ c κs. search needs)
     (λ c κs. search needs)
-    (λ c κs. search needs)
-    (λ c κs. search needs)
     (λ c.
-    let l = c .before .before .before .before in
-    let start = l .before .before .before .before .before in
-    request-by (start .args .r) (start .args .g) (start .args .t) (start .pre .1) _ _ _ _ _
-    (l .before .is-leading .ensures)
-    (l .is-asking .ensures)
-    (c .before .before .level .ensures)
-    (c .before .is-transferring .ensures)
-    (c .level2 .ensures)))
+    let o = c .before in
+    let start = o .before .before .before .before .before in
+    request-by (start .args .r) (start .args .g) (start .args .t) (start .pre .1) _ _ _
+    (o .before .is-leading .ensures)
+    (o .is-transferring .ensures)
+    (c .is-requested .ensures)))

@@ -13,6 +13,9 @@ start c = c .before .before .before
 inside : (c : tie.After-struct-known) → Inside (c .before .screen-of .result) (start c .args .g .half .0) (start c .args .g .at .0)
 inside c = runs-inside (start c .args .r) (start c .args .g) (start c .pre) _ (c .before .screen-of .ensures)
 
+abbrev known : tie.After-is-transferring → tie.After-struct-known
+known o = o .before .before .before .before .before .before .before .before .before
+
 pub stand-of-spec : {M : Type 1} → statement M
 stand-of-spec =
     tie.close
@@ -36,12 +39,18 @@ stand-of-spec =
       row-some _ (inside k .bounded),
       row-most _ (inside k .bounded),
     ))
+    (λ c κs. search needs)
+    (λ c. omega (arith, inside (known (c .before)) .bounded .meminit .high))
+    (λ c. omega (arith, inside (known (c .before .before)) .bounded .transferdelay .high))
+    (λ c κs. search needs)
     (λ c.
-    let p = c .before in
+    let a = c .before in
+    let o = a .before .before .before in
+    let p = o .before in
     let q = p .before .before .before .before in
     let m = q .before .before in
     let k = m .before .before in
-    stands (start k .args .r) (start k .args .g) (start k .pre) (k .before .screen-of .result) (k .before .screen-of .ensures) _ _ _ _ _ _ _
+    stands (start k .args .r) (start k .args .g) (start k .pre) (k .before .screen-of .result) (k .before .screen-of .ensures) _ _ _ _ _ _ _ _ _
     (m .before .is-plain .ensures)
     (m .moment-of .ensures)
     (q .address-increment .ensures)
@@ -49,4 +58,6 @@ stand-of-spec =
     (p .before .before .held-of .ensures)
     (p .before .is-forced-blank .ensures)
     (p .place-of .ensures .0)
-    (p .place-of .ensures .1)))
+    (p .place-of .ensures .1)
+    (o .is-transferring .ensures)
+    (a .is-asking .ensures)))

@@ -1,0 +1,2 @@
+-- The rules of the transfer request.
+pub mod Request
