@@ -1,4 +1,5 @@
 -- `lines::is_low` meets its contract: sync by the period, case by case.
+use native.Mathlib.Omega.{arith}
 use borrow.Author.Needs.{needs}
 use Rattle.lines.proofs.is_low.Statement.{statement}
 use Rattle.lines.proofs.is_low.Tie as tie
@@ -11,9 +12,9 @@ is-low-spec =
     (λ c. search needs)
     (λ c. search needs)
     (λ c. search needs)
+    (λ c. omega arith)
     (λ c. search needs)
-    (λ c. search needs)
-    (λ c. search needs)
+    (λ c. omega arith)
     (λ c. rw (c .enum-told .given .1))
     (λ c. rw (c .enum-told2 .given .1))
     (λ c. rw (c .enum-told3 .given .1))
