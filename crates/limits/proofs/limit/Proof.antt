@@ -1,6 +1,5 @@
 -- `limits::limit` meets its contract. Where 10 does not hold, the counts that the later refusals add up fit 24 bits.
 use mathlib.Core.Path.{sym, _∙_}
-use borrow.Author.Needs.{needs}
 use Rattle.limits.specs.Limits.{limitOf}
 use Rattle.limits.proofs.Laws.{bounded, narrow}
 use Rattle.limits.proofs.limit.Statement.{statement}
@@ -11,7 +10,7 @@ unfolding limitOf
 limit-spec =
     tie.close
     (tie.spec
-    (λ c κs. search needs)
+    (λ c κs. tt)
     (λ c. simp (sym (c .before .refuses-10 .ensures) ∙ c .if1 .taken))
     (λ c κs. narrow _ (bounded _ (sym (c .before .refuses-10 .ensures) ∙ c .if1 .left)))
     (λ c. simp (sym (c .before .before .refuses-10 .ensures) ∙ c .before .if1 .left) (c .later-limit .ensures)))

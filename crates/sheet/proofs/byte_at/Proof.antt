@@ -11,6 +11,6 @@ byte-at-spec =
     tie.close
     (tie.spec
     (λ c. search needs)
-    (λ c κs. search needs)
+    (λ c κs. tt)
     (λ c. search needs)
     (λ c. (sym (List·getD-eq-default (c .before .before .args .bytes .now) 0 (omega arith)), omega arith)))

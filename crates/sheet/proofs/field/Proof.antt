@@ -14,9 +14,9 @@ field-spec =
     (λ c.
     let tag = c .before .before .before .args .tag in
     simp (le-ltb tag 0x21 (omega arith), lt-ltb 0x2E tag (omega arith)))
-    (λ c κs. search needs)
-    (λ c. search needs)
-    (λ c. search needs)
+    (λ c κs. tt)
+    (λ c. omega arith)
+    (λ c. omega arith)
     (λ c. search needs)
     (λ c.
     found _ (c .before .before .before .before .before .args .tag) _ (c .before .read .ensures) (omega arith) (omega arith)))

@@ -12,10 +12,10 @@ pub left-from-spec : {M : Type 1} → statement M
 left-from-spec =
     tie.close
     (tie.spec
+    (λ c. omega arith)
     (λ c. search needs)
     (λ c. search needs)
-    (λ c. search needs)
-    (λ c. search needs)
+    (λ c. omega arith)
     (λ c. search needs)
     (λ c. search needs)
     (λ c.

@@ -26,20 +26,20 @@ sheet-refusal-spec =
     Inv-loop
     μ-loop
     (λ c. (omega arith, refl))
-    (λ c κs. search needs)
-    (λ c κs. search needs)
-    (λ c. search needs)
-    (λ c κs. search needs)
-    (λ c κs. search needs)
-    (λ c κs. search needs)
-    (λ c. search needs)
+    (λ c κs. tt)
+    (λ c κs. tt)
+    (λ c. omega arith)
+    (λ c κs. tt)
+    (λ c κs. tt)
+    (λ c κs. tt)
+    (λ c. omega arith)
     (λ c. search needs)
     (λ c.
     let loop = c .before .before .before .before .before .before .loop in
     (omega arith, judged _ (loop .i) (loop .refusal) _ (omega arith) (loop .inv .1) (c .first .result) (rw (c .first .ensures, c .before .field-refusal .ensures, c .before .before .left-from .ensures, c .before .before .before .wide .ensures .0, c .before .before .before .before .tag-of .ensures))))
-    (λ c κs. search needs)
-    (λ c κs. search needs)
-    (λ c κs. search needs)
+    (λ c κs. tt)
+    (λ c κs. tt)
+    (λ c κs. tt)
     (λ c.
     let loop = c .before .before .before .before .loop in
     rw (c .first3 .ensures, c .before .first2 .ensures, c .before .before .left-from2 .ensures) (judged-all _ (loop .i) (loop .refusal) _ (omega arith) (loop .inv .1))))

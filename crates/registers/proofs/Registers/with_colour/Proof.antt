@@ -1,4 +1,5 @@
 -- `registers::Registers::with_colour` meets its contract: past the last colour nothing is stored. Assumes nothing.
+use native.Mathlib.Omega.{arith}
 use mathlib.Core.Path.{refl}
 use borrow.Author.Needs.{needs}
 use Rattle.map.specs.declared.Place.the-variants.{Colour}
@@ -12,7 +13,7 @@ unfolding storeIn
 with-colour-spec =
     tie.close
     (tie.spec
-    (λ c. search needs)
+    (λ c. omega arith)
     (λ c. search needs)
     (λ c. refl)
     (λ c. stored-past _ (Colour _) _ (search needs) (c .if1 .left)))

@@ -1,4 +1,5 @@
 -- `registers::Registers::with_palette` meets its contract: past the last palette entry nothing is stored. Assumes nothing.
+use native.Mathlib.Omega.{arith}
 use mathlib.Core.Path.{refl}
 use borrow.Author.Needs.{needs}
 use Rattle.map.specs.declared.Place.the-variants.{Palette}
@@ -12,7 +13,7 @@ unfolding storeIn
 with-palette-spec =
     tie.close
     (tie.spec
-    (λ c. search needs)
+    (λ c. omega arith)
     (λ c. search needs)
     (λ c. refl)
     (λ c. stored-past _ (Palette _) _ (search needs) (c .if1 .left)))

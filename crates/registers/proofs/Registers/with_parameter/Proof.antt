@@ -1,4 +1,5 @@
 -- `registers::Registers::with_parameter` meets its contract: past the last parameter nothing is stored. Assumes nothing.
+use native.Mathlib.Omega.{arith}
 use mathlib.Core.Path.{refl}
 use borrow.Author.Needs.{needs}
 use Rattle.map.specs.declared.Place.the-variants.{Screen}
@@ -12,7 +13,7 @@ unfolding storeIn
 with-parameter-spec =
     tie.close
     (tie.spec
-    (λ c. search needs)
+    (λ c. omega arith)
     (λ c. search needs)
     (λ c. refl)
     (λ c. stored-past _ (Screen _) _ (search needs) (c .if1 .left)))

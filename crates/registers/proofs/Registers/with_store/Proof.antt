@@ -1,4 +1,5 @@
 -- `registers::Registers::with_store` meets its contract: past the last word nothing is stored. Assumes nothing.
+use native.Mathlib.Omega.{arith}
 use mathlib.Core.Path.{refl}
 use borrow.Author.Needs.{needs}
 use Rattle.map.specs.declared.Place.the-variants.{Store}
@@ -12,8 +13,8 @@ unfolding storeIn
 with-store-spec =
     tie.close
     (tie.spec
-    (λ c. search needs)
-    (λ c. search needs)
+    (λ c. omega arith)
+    (λ c. omega arith)
     (λ c. search needs)
     (λ c. refl)
     (λ c. stored-past _ (Store _) _ (search needs) (c .if1 .left)))
