@@ -1,5 +1,5 @@
 #!/bin/sh
-# Builds libstation.a and liblent.a, their tests and the release program with the kit's own compiler, linker and C library, and runs them.
+# Builds libstation.a, its test and the release program with the kit's own compiler, linker and C library, and runs them.
 # Native on x86-64; elsewhere the kit's emulator runs them. Ends with a nonzero status if an answer is wrong.
 set -eu
 cd "$(dirname "$0")/.."
@@ -7,17 +7,15 @@ cd "$(dirname "$0")/.."
 . host/tools.sh
 
 mkdir -p "$out"
-# What the archives stand on is proved side by side first.
-rt check station lent >"$out/proved" 2>&1 || { cat "$out/proved" >&2; exit 1; }
-for archive in station lent; do
-    rt staticlib "$archive" >"$out/staticlib" 2>&1 || { cat "$out/staticlib" >&2; exit 1; }
-done
+# What the archive stands on is proved side by side first.
+rt check station >"$out/proved" 2>&1 || { cat "$out/proved" >&2; exit 1; }
+rt staticlib station >"$out/staticlib" 2>&1 || { cat "$out/staticlib" >&2; exit 1; }
 
-build() { # NAME ARCHIVE
+build() { # NAME
     "$tools/bin/clang" --target=x86_64-unknown-linux-gnu -std=c11 -O2 -fPIE -ffreestanding -nostdinc -Wall -Wextra -Werror \
         -isystem host/libc -I include -c "host/$1.c" -o "$out/$1.o"
     "$own/bin/rattle-link" --target x86_64-unknown-linux-gnu --toolchain "$tools" \
-        -o "$out/$1" "$out/$1.o" "target/staticlib/lib$2.a" 2>"$out/$1.link" || { cat "$out/$1.link" >&2; exit 1; }
+        -o "$out/$1" "$out/$1.o" target/staticlib/libstation.a 2>"$out/$1.link" || { cat "$out/$1.link" >&2; exit 1; }
 }
 
 # What the release program writes and how it ends, held to what is right.
@@ -34,11 +32,9 @@ is() { # STATUS LINE WORDS..   (a sheet on standard input)
     fi
 }
 
-build test station
-build release station
-build lent lent
+build test
+build release
 run test
-run lent
 
 printf '' >"$out/empty"
 for tag in 41 42 43 44 45 46 47 50 51 52 53 54 55 56; do printf "\\$tag\\000\\002\\001\\$tag"; done >"$out/sheet"

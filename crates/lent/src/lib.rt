@@ -1,23 +1,20 @@
-// One tick with the generator lent: a call advances the record that its caller keeps. Exported to C, with the tick by value beside it.
+// One tick with the generator lent: a call advances the record that its caller keeps.
 ghost use mathlib.Core.Path.{_≡_};
 ghost use Rattle.generator.specs.Tick.{tickOf};
 ghost use Rattle.generator.specs.Sound.{Sound};
 ghost use Rattle.lent.specs.Lent.{answered};
 use generator::Generator;
 use generator::Signals;
-use generator::Ticked;
 use registers::Registers;
 
 // A tick's refusal or 0, and what it puts out.
-#[repr(C)]
 pub struct Answer {
     pub refusal: u32,
     pub signals: Signals,
 }
 
 // One tick, lent: the record is then the generator after it. A refused tick leaves it as it was.
-#[no_mangle]
-pub extern "C" fn advance(g: &mut Generator, r: Registers, memory: &[u8]) -> Answer
+pub fn advance(g: &mut Generator, r: Registers, memory: &[u8]) -> Answer
     requires { ⌜ Sound r (now g) ⌝ }
     ensures answer { λ a. ⌜ a ≡ answered (tickOf r (now (memory .entry)) (now (g .entry))) ⌝ }
     ensures lent { λ _. ⌜ now (g .exit) ≡ tickOf r (now (memory .entry)) (now (g .entry)) .next ⌝ }
@@ -28,13 +25,4 @@ pub extern "C" fn advance(g: &mut Generator, r: Registers, memory: &[u8]) -> Ans
         refusal: ticked.refusal,
         signals: ticked.signals,
     }
-}
-
-// One tick, by value.
-#[no_mangle]
-pub extern "C" fn tick(r: Registers, g: Generator, memory: &[u8]) -> Ticked
-    requires { ⌜ Sound r g ⌝ }
-    ensures ticked { λ n. ⌜ n ≡ tickOf r (now (memory .entry)) g ⌝ }
-{
-    generator::tick(r, g, memory)
 }
