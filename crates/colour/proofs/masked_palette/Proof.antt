@@ -5,7 +5,6 @@ use native.Mathlib.Omega.{arith}
 use lib.ListN.{length, getD, length-set}
 use Rattle.colour.specs.Colour.{maskedColour}
 use Rattle.colour.proofs.Cases.{filled-more, filled-all}
-use borrow.Author.Needs.{needs}
 use Rattle.colour.proofs.masked_palette.Statement.{statement}
 use Rattle.colour.proofs.masked_palette.Tie as tie
 
@@ -23,7 +22,7 @@ cast-masked-colour : tie.Need-cast-masked-colour Inv-loop μ-loop
 cast-masked-colour c = omega arith
 
 masked-colour-requires : tie.Need-masked-colour-requires Inv-loop μ-loop
-masked-colour-requires c κs = search needs
+masked-colour-requires c κs = tt
 
 mul-table : tie.Need-mul-table Inv-loop μ-loop
 mul-table c = omega arith

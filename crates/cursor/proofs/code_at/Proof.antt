@@ -1,4 +1,5 @@
 -- `cursor::code_at` meets its contract: a shift by two bits a column. Assumes nothing.
+use native.Mathlib.Omega.{arith}
 use Rattle.cursor.proofs.Cases.{four-power}
 use borrow.Author.Needs.{needs}
 use Rattle.cursor.proofs.code_at.Statement.{statement}
@@ -11,13 +12,13 @@ pub code-at-spec : {M : Type 1} → statement M
 code-at-spec =
     tie.close
     (tie.spec
+    (λ c. omega arith)
+    (λ c. omega arith)
+    (λ c. omega arith)
+    (λ c. omega arith)
     (λ c. search needs)
-    (λ c. search needs)
-    (λ c. search needs)
-    (λ c. search needs)
-    (λ c. search needs)
-    (λ c. search needs)
-    (λ c. search needs)
-    (λ c. search needs)
-    (λ c. search needs)
+    (λ c. omega arith)
+    (λ c. omega arith)
+    (λ c. omega arith)
+    (λ c. omega arith)
     returns)

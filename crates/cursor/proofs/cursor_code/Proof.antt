@@ -8,8 +8,8 @@ pub cursor-code-spec : {M : Type 1} → statement M
 cursor-code-spec =
     tie.close
     (tie.spec
-    (λ c κs. search needs)
-    (λ c κs. search needs)
+    (λ c κs. tt)
+    (λ c κs. tt)
     (λ c κs. search needs)
     (λ c.
     code-under _ _ _ _ _ _ _ (c .before .before .before .number2 .ensures) (c .before .before .before .before .number .ensures)

@@ -1,5 +1,4 @@
 -- `map::is_checksum` meets its contract: the row is that of the checksums. Assumes nothing.
-use borrow.Author.Needs.{needs}
 use Rattle.map.proofs.is_checksum.Statement.{statement}
 use Rattle.map.proofs.is_checksum.Tie as tie
 
@@ -7,5 +6,5 @@ pub is-checksum-spec : {M : Type 1} → statement M
 is-checksum-spec =
     tie.close
     (tie.spec
-    (λ c κs. search needs)
+    (λ c κs. tt)
     (λ c. rw (c .row-of .ensures)))

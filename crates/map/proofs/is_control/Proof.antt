@@ -1,5 +1,4 @@
 -- `map::is_control` meets its contract: the row is that of control A. Assumes nothing.
-use borrow.Author.Needs.{needs}
 use Rattle.map.proofs.is_control.Statement.{statement}
 use Rattle.map.proofs.is_control.Tie as tie
 
@@ -7,5 +6,5 @@ pub is-control-spec : {M : Type 1} → statement M
 is-control-spec =
     tie.close
     (tie.spec
-    (λ c κs. search needs)
+    (λ c κs. tt)
     (λ c. rw (c .row-of .ensures)))

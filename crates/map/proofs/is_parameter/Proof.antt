@@ -1,5 +1,4 @@
 -- `map::is_parameter` meets its contract: the row is that of the parameters. Assumes nothing.
-use borrow.Author.Needs.{needs}
 use Rattle.map.proofs.is_parameter.Statement.{statement}
 use Rattle.map.proofs.is_parameter.Tie as tie
 
@@ -7,5 +6,5 @@ pub is-parameter-spec : {M : Type 1} → statement M
 is-parameter-spec =
     tie.close
     (tie.spec
-    (λ c κs. search needs)
+    (λ c κs. tt)
     (λ c. rw (c .row-of .ensures)))

@@ -1,5 +1,4 @@
 -- `map::is_reserved` meets its contract: the row is that of no row. Assumes nothing.
-use borrow.Author.Needs.{needs}
 use Rattle.map.proofs.is_reserved.Statement.{statement}
 use Rattle.map.proofs.is_reserved.Tie as tie
 
@@ -7,5 +6,5 @@ pub is-reserved-spec : {M : Type 1} → statement M
 is-reserved-spec =
     tie.close
     (tie.spec
-    (λ c κs. search needs)
+    (λ c κs. tt)
     (λ c. rw (c .row-of .ensures)))

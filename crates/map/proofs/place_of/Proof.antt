@@ -1,5 +1,4 @@
 -- `map::place_of` meets its contract: the first four rows of the map, each a choice, and then the others. Assumes nothing.
-use borrow.Author.Needs.{needs}
 use Rattle.map.specs.Map.{placeOf}
 use Rattle.map.proofs.place_of.Statement.{statement}
 use Rattle.map.proofs.place_of.Tie as tie
@@ -9,10 +8,10 @@ unfolding placeOf
 place-of-spec =
     tie.close
     (tie.spec
-    (λ c κs. search needs)
-    (λ c κs. search needs)
-    (λ c κs. search needs)
-    (λ c κs. search needs)
-    (λ c κs. search needs)
-    (λ c κs. search needs)
+    (λ c κs. tt)
+    (λ c κs. tt)
+    (λ c κs. tt)
+    (λ c κs. tt)
+    (λ c κs. tt)
+    (λ c κs. tt)
     (λ c. rw (c .row4 .ensures, c .before .less .ensures, c .before .before .row3 .ensures, c .before .before .before .row2 .ensures, c .before .before .before .before .row .ensures, c .before .before .before .before .before .high-place-of .ensures)))

@@ -1,5 +1,4 @@
 -- `map::widest` meets its contract: the choice of `base`, by the row. Assumes nothing.
-use borrow.Author.Needs.{needs}
 use Rattle.map.proofs.widest.Statement.{statement}
 use Rattle.map.proofs.widest.Tie as tie
 
@@ -7,6 +6,6 @@ pub widest-spec : {M : Type 1} → statement M
 widest-spec =
     tie.close
     (tie.spec
-    (λ c κs. search needs)
-    (λ c κs. search needs)
+    (λ c κs. tt)
+    (λ c κs. tt)
     (λ c. rw (c .first .ensures, c .before .row-of .ensures)))

@@ -4,7 +4,6 @@ use mathlib.Core.Path.{_≡_}
 use native.Mathlib.Nat.{one-mul}
 use native.Mathlib.Omega.{arith}
 use lib.Pow.{pow-add, shl-exact}
-use borrow.Author.Needs.{needs}
 use Rattle.control.specs.Control.{depth}
 use Rattle.memory.proofs.per_byte.Statement.{statement}
 use Rattle.memory.proofs.per_byte.Tie as tie
@@ -18,8 +17,8 @@ pub per-byte-spec : {M : Type 1} → statement M
 per-byte-spec =
     tie.close
     (tie.spec
-    (λ c κs. search needs)
+    (λ c κs. tt)
     (λ c. omega arith)
-    (λ c. search needs)
+    (λ c. omega arith)
     (λ c. omega arith)
     (λ c. rw (c .depth-code .ensures) (eight (depth (c .before .args .control)) (omega arith))))

@@ -28,7 +28,7 @@ compare-spec =
     (λ c. (omega arith, refl))
     (λ c. search needs)
     (λ c. search needs)
-    (λ c. search needs)
+    (λ c. omega arith)
     (λ c. search needs)
     (λ c.
     let loop = c .before .before .before .loop in

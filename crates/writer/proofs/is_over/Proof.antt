@@ -23,9 +23,9 @@ is-over-spec =
     Inv-loop
     μ-loop
     (λ c. (omega arith, refl))
+    (λ c. omega arith)
     (λ c. search needs)
-    (λ c. search needs)
-    (λ c. search needs)
+    (λ c. omega arith)
     (λ c. search needs)
     (λ c. let turn = c .before in (omega arith, tested (turn .before .args .t1) (turn .loop .i) (turn .loop .over) _ (omega arith) (turn .loop .inv .1)))
     (λ c. finished (c .before .before .args .t1) _ (c .before .loop .i) (omega arith) (c .before .loop .inv .1)))

@@ -13,15 +13,15 @@ put-field-spec =
     tie.close
     (tie.spec
     (λ c. search needs)
-    (λ c. search needs)
+    (λ c. omega arith)
     (λ c. simp length-set (omega arith))
-    (λ c. search needs)
+    (λ c. omega arith)
     (λ c. simp length-set (omega arith))
-    (λ c. search needs)
-    (λ c. search needs)
+    (λ c. omega arith)
+    (λ c. omega arith)
     (λ c. simp length-set (omega arith))
-    (λ c. search needs)
-    (λ c. search needs)
+    (λ c. omega arith)
+    (λ c. omega arith)
     (λ c. simp length-set (omega arith))
     (λ c. simp length-set)
     (λ c.

@@ -32,20 +32,20 @@ write-spec =
     (tie.spec
     Inv-loop
     μ-loop
-    (λ c κs. search needs)
-    (λ c κs. search needs)
-    (λ c κs. search needs)
+    (λ c κs. tt)
+    (λ c κs. tt)
+    (λ c κs. tt)
     (λ c. (omega arith, refl, refl))
-    (λ c. search needs)
-    (λ c κs. search needs)
-    (λ c. search needs)
+    (λ c. omega arith)
+    (λ c κs. tt)
+    (λ c. omega arith)
     (λ c. search needs)
     (λ c κs.
     let begun = c .before .before .before .before in
     let a = begun .before .before .before .before .before .args in
     let fits = taken (a .t1) (a .room .now) (accepted begun) in
     (omega (arith, fits .1), omega (arith, within (a .t1) (fits .0) (c .before .before .before .loop .i))))
-    (λ c. search needs)
+    (λ c. omega arith)
     (λ c. search needs)
     (λ c.
     let put = c .before .before in

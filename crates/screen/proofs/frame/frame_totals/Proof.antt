@@ -2,12 +2,11 @@
 use mathlib.Core.Path.{sym, _∙_}
 use Rattle.limits.proofs.Laws.{accepted, narrow}
 use Rattle.screen.proofs.Laws.{totals-counted, totals-refused}
-use borrow.Author.Needs.{needs}
 use Rattle.screen.proofs.frame.frame_totals.Statement.{statement}
 use Rattle.screen.proofs.frame.frame_totals.Tie as tie
 
 limit-requires : tie.Need-limit-requires
-limit-requires c κs = search needs
+limit-requires c κs = tt
 
 count-requires : tie.Need-count-requires
 count-requires c κs = narrow _ (accepted _ _ (sym (c .before .limit .ensures) ∙ c .if1 .taken) .bounded)
