@@ -6,14 +6,13 @@ use mathlib.Core.Path.{_≡_, refl, sym, ap, _∙_}
 use native.Mathlib.Nat.{mod-lt}
 use native.Mathlib.Omega.{arith}
 use lib.Dec.{eqb}
-use lib.ListN.{getD}
 use Rattle.base.specs.Count.{count, some, run}
 use Rattle.control.specs.Control.{running, transferring, pixelBits}
 use Rattle.units.specs.declared.Screen.{Screen}
 use Rattle.registers.specs.declared.Registers.{Registers}
 use Rattle.memory.specs.Memory.{endsBeyond}
 use Rattle.pixel.specs.Dot.{dotAt, black}
-use Rattle.pixel.specs.Sums.{none, summed}
+use Rattle.pixel.specs.Sums.{clearedAt, summedWhere}
 use Rattle.pixel.specs.declared.Dot.{Dot}
 use Rattle.pixel.specs.declared.Sums.{Sums}
 use Rattle.memory.proofs.Laws.{ends-beyond-later}
@@ -72,19 +71,9 @@ module _ (r : Registers) (m : List ℕ) (g : Generator) (t : Stand) (st : Stands
   unfolding dots run
   dots-dark s = simp (← (st .shows-is), s)
 
-  -- four entries of a list of four are the list
-  four-of : (x : Bool) (f h : ℕ → Dot) (l : List Dot) → l ≡ cond x (run f 0 4) (run h 0 4) → (s : Sums) → summed s (getD l 0 black ∷ getD l 1 black ∷ getD l 2 black ∷ getD l 3 black ∷ []) ≡ summed s l
-  unfolding run
-  four-of true f h l e s = rw e
-  four-of false f h l e s = rw e
-
-  four-at : (four : List Dot) → four ≡ dots r m g → (s : Sums) → summed s (getD four 0 black ∷ getD four 1 black ∷ getD four 2 black ∷ getD four 3 black ∷ []) ≡ summed s four
-  unfolding dots
-  four-at four e s = four-of (shows r g) (dotOf r m (heldAddress r g) (g .seen .0)) (λ k. black) four e s
-
-  pub sums-by : (four : List Dot) → four ≡ dots r m g → (before after out : Sums) → before ≡ cond (t .moment .opens) none (g .sums) → after ≡ summed before (getD four 0 black ∷ getD four 1 black ∷ getD four 2 black ∷ getD four 3 black ∷ []) → out ≡ cond (t .shows) after before → out ≡ sumsAfter r m g
+  pub sums-by : (four : List Dot) → four ≡ dots r m g → (out : Sums) → out ≡ summedWhere (t .shows) (clearedAt (t .moment .opens) (g .sums)) four → out ≡ sumsAfter r m g
   unfolding sumsAfter cleared
-  sums-by four e before after out eb ea eo = eo ∙ rw (ea, four-at four e before, e, eb, st .shows-is, moment-opens r g t st)
+  sums-by four e out eo = eo ∙ rw (e, st .shows-is, moment-opens r g t st)
 
 -- the generator after the tick, from what its parts answer
 pub next-by : (r : Registers) (g : Generator) (t : Stand) → Stands r g t → (sums : Sums) (asked : Bool) (more seen : ℕ) → more ≡ cond (t .moment .visible) (g .seen .0 + 1) (g .seen .0) →

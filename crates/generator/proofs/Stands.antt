@@ -7,12 +7,12 @@ use lib.Dec.{ltb, eqb}
 use Rattle.base.specs.Sum.{rolled}
 use Rattle.control.specs.Control.{plain, forcedBlank, transferring, increment}
 use Rattle.control.proofs.Laws.{increment-positive}
-use Rattle.units.specs.Parameters.{rowLength, screenOf}
+use Rattle.units.specs.Parameters.{rowLength, screenOf, halfTicks, halvesToVDisplay, displayFrom}
 use Rattle.screen.specs.Totals.{frameVisible}
 use Rattle.limits.specs.Limits.{Bounded}
 use Rattle.units.specs.declared.Screen.{Screen}
 use Rattle.limits.proofs.Laws.{narrow}
-use Rattle.request.specs.Request.{asking, requested}
+use Rattle.request.specs.Request.{asking, leading, requested}
 use Rattle.registers.specs.declared.Registers.{Registers}
 use Rattle.lines.specs.Lines.{visible, opens, momentOf}
 use Rattle.lines.specs.declared.Moment.{Moment}
@@ -106,7 +106,7 @@ module _ (r : Registers) (g : Generator) (t : Stand) (st : Stands r g t) where
   moment-opens = ap (λ (x : Moment). x .opens) (st .moment-is)
 
 -- the request, from what its parts answer
-pub request-by : (r : Registers) (g : Generator) (t : Stand) → Stands r g t → (leading on out : Bool) → leading ≡ leads (t .screen) (g .half .0) (g .at .0) → on ≡ transferring (r .control) →
-    out ≡ requested on (t .moment .visible) (t .asking) leading (g .seen .0) (frameVisible (t .screen)) (g .asked) → out ≡ requestAt r g
-unfolding requestAt
-request-by r g t st leading on out el en eo = eo ∙ rw (en, el, st .asking-is, moment-visible r g t st, st .screen-is)
+pub request-by : (r : Registers) (g : Generator) (t : Stand) → Stands r g t → (lead on out : Bool) → lead ≡ leading (g .half .0) (g .at .0) (halfTicks (t .screen)) (halvesToVDisplay (t .screen)) (displayFrom (t .screen)) (t .screen .transferdelay .0) → on ≡ transferring (r .control) →
+    out ≡ requested on (t .moment .visible) (t .asking) lead (g .seen .0) (frameVisible (t .screen)) (g .asked) → out ≡ requestAt r g
+unfolding requestAt leads
+request-by r g t st lead on out el en eo = eo ∙ rw (en, el, st .asking-is, moment-visible r g t st, st .screen-is)

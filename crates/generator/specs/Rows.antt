@@ -2,15 +2,15 @@
 -- Assumes nothing.
 use Prim.Native.Nat.{ℕ, _+_, _*_, _/_, _%_}
 use mathlib.Core.Bool.{Bool, cond, _&&_}
-use lib.Dec.{ltb, leb, eqb}
+use lib.Dec.{ltb, eqb}
 use Rattle.base.specs.Sum.{rolled}
 use Rattle.control.specs.Control.{transferring, increment}
 use Rattle.units.specs.Parameters.{screenOf, halfTicks, displayFrom, halvesToVDisplay, rowLength}
 use Rattle.screen.specs.Totals.{frameVisible}
-use Rattle.request.specs.Request.{asking, requested}
+use Rattle.request.specs.Request.{asking, leading, requested}
 use Rattle.units.specs.declared.Screen.{Screen}
 use Rattle.registers.specs.declared.Registers.{Registers}
-use Rattle.lines.specs.Lines.{visible, opens, tickNumber}
+use Rattle.lines.specs.Lines.{visible, opens}
 use Rattle.generator.specs.declared.Generator.{Generator}
 
 abbrev pub screen : Registers → Screen
@@ -47,14 +47,9 @@ place r address v k = (rowNumber r address * rowLength (screen r) + v % rowLengt
 unfoldable pub asks : ℕ → Screen → ℕ → Bool
 asks control s v = asking (transferring control) (s .meminit .0) (s .transferdelay .0) v
 
--- the number of the frame's first visible tick
-abbrev pub firstVisible : Screen → ℕ
-firstVisible s = tickNumber s (halvesToVDisplay s) (displayFrom s)
-
--- one of the TransferDelay ticks just before it
+-- one of the TransferDelay ticks just before the frame's first visible one
 unfoldable pub leads : Screen → ℕ → ℕ → Bool
-leads s half at =
-    ltb (tickNumber s half at) (firstVisible s) && leb (firstVisible s) (tickNumber s half at + s .transferdelay .0)
+leads s half at = leading half at (halfTicks s) (halvesToVDisplay s) (displayFrom s) (s .transferdelay .0)
 
 -- the request, by its own rule
 unfoldable pub requestAt : Registers → Generator → Bool

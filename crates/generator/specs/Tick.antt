@@ -9,7 +9,7 @@ use Rattle.control.specs.Control.{running, plain, forcedBlank, transferring, pi
 use Rattle.registers.specs.declared.Registers.{Registers}
 use Rattle.memory.specs.Memory.{endsBeyond}
 use Rattle.pixel.specs.Dot.{dotAt, black}
-use Rattle.pixel.specs.Sums.{none, summed}
+use Rattle.pixel.specs.Sums.{none, clearedAt, summedWhere}
 use Rattle.pixel.specs.declared.Dot.{Dot}
 use Rattle.pixel.specs.declared.Sums.{Sums}
 use Rattle.lines.specs.Lines.{period, isVSync, isVDisplay, syncLow, opens, closes, nextHalf, nextAt}
@@ -44,10 +44,10 @@ refuses20 r m g =
 
 -- sums clear at the first VDisplay tick; each unblanked colour byte is added
 unfoldable pub cleared : Registers → Generator → Sums
-cleared r g = cond (opens (screen r) (g .half .0) (g .at .0)) none (g .sums)
+cleared r g = clearedAt (opens (screen r) (g .half .0) (g .at .0)) (g .sums)
 
 unfoldable pub sumsAfter : Registers → List ℕ → Generator → Sums
-sumsAfter r m g = cond (shows r g) (summed (cleared r g) (dots r m g)) (cleared r g)
+sumsAfter r m g = summedWhere (shows r g) (cleared r g) (dots r m g)
 
 -- v counts a frame's visible ticks from 0
 unfoldable pub seenAfter : Registers → Generator → ℕ

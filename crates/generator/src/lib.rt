@@ -68,7 +68,7 @@ fn running_tick(r: Registers, g: Generator, memory: &[u8]) -> Ticked
 {
     let t = rows::stand_of(r, g);
     let dots = output::dots_of(r, g, t, memory);
-    let sums = output::sums_of(r, g, t, memory, dots);
+    let sums = g.sums.after(t.moment.opens, t.shows, dots);
     let next = output::next_of(r, g, t, sums);
     let refused = output::is_refused(r, g, t, memory);
     if refused {

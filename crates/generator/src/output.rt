@@ -1,11 +1,8 @@
 // What a tick puts out (01, "Lines and frames", "Rows and pixels"), and the generator that it leaves.
 ghost use mathlib.Core.Path.{_≡_};
-ghost use mathlib.Core.Bool.{cond};
-ghost use mathlib.Core.List.{[], _∷_};
 ghost use Prim.Native.Nat.{_<_};
-ghost use Rattle.pixel.specs.Sums.{summed};
 ghost use Rattle.generator.specs.Rows.{heldAddress};
-ghost use Rattle.generator.specs.Tick.{dotOf, dots, refuses20, silent, sumsAfter, stepWith, signalsWith};
+ghost use Rattle.generator.specs.Tick.{dotOf, dots, refuses20, silent, stepWith, signalsWith};
 ghost use Rattle.generator.specs.Stand.{Runs, Stands};
 use crate::Generator;
 use crate::Signals;
@@ -55,29 +52,6 @@ pub fn dots_of(r: Registers, g: Generator, t: Stand, memory: &[u8]) -> [Dot; 4]
     }
     let black = Dot { colour: 0 };
     [black, black, black, black]
-}
-
-fn kept(test: bool, sums: Sums, other: Sums) -> Sums
-    ensures chosen { λ s. ⌜ s ≡ cond test sums other ⌝ }
-{
-    if test { sums } else { other }
-}
-
-fn added(sums: Sums, a: Dot, b: Dot, c: Dot, d: Dot) -> Sums
-    ensures sums { λ s. ⌜ s ≡ summed sums (a ∷ b ∷ c ∷ d ∷ []) ⌝ }
-{
-    sums.added(a).added(b).added(c).added(d)
-}
-
-// The sums: cleared at the first VDisplay tick, and each byte of an unblanked pixel added.
-pub fn sums_of(r: Registers, g: Generator, t: Stand, memory: &[u8], four: [Dot; 4]) -> Sums
-    requires { ⌜ Stands r g t ⌝ }
-    requires { ⌜ four ≡ dots r (now memory) g ⌝ }
-    ensures sums { λ s. ⌜ s ≡ sumsAfter r (now (memory .entry)) g ⌝ }
-{
-    let before = kept(t.moment.opens, Sums::none(), g.sums);
-    let after = added(before, four[0], four[1], four[2], four[3]);
-    kept(t.shows, after, before)
 }
 
 // The generator one tick on.

@@ -4,8 +4,7 @@ ghost use mathlib.Core.Bool.{cond, _&&_};
 ghost use Prim.Native.Nat.{_+_, _*_, _/_, _%_, _^_, _≤_, _<_};
 ghost use lib.Dec.{ltb};
 ghost use Rattle.base.specs.Sum.{rolled};
-ghost use Rattle.generator.specs.Rows.{leads, requestAt};
-ghost use Rattle.generator.specs.Sound.{Inside};
+ghost use Rattle.generator.specs.Rows.{requestAt};
 ghost use Rattle.generator.specs.Stand.{Runs, Stands};
 use crate::Generator;
 use lines::Moment;
@@ -71,28 +70,7 @@ pub fn stand_of(r: Registers, g: Generator) -> Stand
     }
 }
 
-// A tick's number in the frame, from its half line and its number there.
-fn number_of(half: u64, line: u64, at: u64) -> u64
-    requires { ⌜ (half ≤ 5 * 0xFFFFFF) × (line ≤ 0x7FFFFF) × (at ≤ 2 ^ 26) ⌝ }
-    ensures number { λ n. ⌜ n ≡ half * line + at ⌝ }
-    ensures bound { λ n. ⌜ n < 2 ^ 60 ⌝ }
-{
-    half * line + at
-}
-
-// One of the TransferDelay ticks just before the frame's first visible one.
-fn is_leading(s: Screen, half: u64, at: u64) -> bool
-    requires { ⌜ Inside s half at ⌝ }
-    ensures test { λ b. ⌜ b ≡ leads s half at ⌝ }
-{
-    let line = s.linetime.0 / 2;
-    let blank = s.vpreequalise.0 + s.vsync.0 + s.vpostequalise.0 + s.vblank.0;
-    let from = 2 * s.halfsync.0 + s.backporch.0;
-    let number = number_of(half, line, at);
-    let first = number_of(blank, line, from);
-    (number < first) & (first <= number + s.transferdelay.0)
-}
-
+// The request at a tick.
 pub fn is_request(r: Registers, g: Generator, t: Stand) -> bool
     requires { ⌜ Runs r g ⌝ }
     requires { ⌜ Stands r g t ⌝ }
@@ -101,7 +79,17 @@ pub fn is_request(r: Registers, g: Generator, t: Stand) -> bool
     let s = t.screen;
     let seen = g.seen.0;
     let all = s.display.0 * (s.vdisplay.0 / 2);
-    let leading = is_leading(s, g.half.0, g.at.0);
+    let line = s.linetime.0 / 2;
+    let blank = s.vpreequalise.0 + s.vsync.0 + s.vpostequalise.0 + s.vblank.0;
+    let from = 2 * s.halfsync.0 + s.backporch.0;
+    let leading = request::is_leading(
+        g.half.0 as u32,
+        g.at.0 as u32,
+        line as u32,
+        blank as u32,
+        from as u32,
+        s.transferdelay.0 as u32,
+    );
     let on = control::is_transferring(r.control);
     request::is_requested(on, t.moment.visible, t.asking, leading, seen, all, g.asked)
 }

@@ -1,7 +1,11 @@
 -- What callers know of the sums. Assumes nothing.
-use mathlib.Core.Path.{_≡_, refl}
+use mathlib.Core.Bool.{Bool, cond}
+use mathlib.Core.Path.{_≡_, refl, _∙_}
 use mathlib.Core.List.{List, [], _∷_, _++_}
-use Rattle.pixel.specs.Sums.{added, summed}
+use native.Mathlib.Omega.{arith}
+use lib.ListN.{length, getD}
+use Rattle.pixel.specs.Dot.{black}
+use Rattle.pixel.specs.Sums.{none, added, summed, clearedAt, summedWhere}
 use Rattle.pixel.specs.declared.Dot.{Dot}
 use Rattle.pixel.specs.declared.Sums.{Sums}
 
@@ -10,3 +14,19 @@ pub summed-join : (s : Sums) (a b : List Dot) → summed s (a ++ b) ≡ summed (
 unfolding summed
 summed-join s [] b = refl
 summed-join s (dot ∷ a) b = summed-join (added s dot) a b
+
+-- the four dots of a list of four, one after the other
+pub four-summed : (l : List Dot) → length l ≡ 4 → (s : Sums) → added (added (added (added s (getD l 0 black)) (getD l 1 black)) (getD l 2 black)) (getD l 3 black) ≡ summed s l
+unfolding summed
+four-summed [] e s = absurd (omega arith)
+four-summed (a ∷ []) e s = absurd (omega arith)
+four-summed (a ∷ b ∷ []) e s = absurd (omega arith)
+four-summed (a ∷ b ∷ c ∷ []) e s = absurd (omega arith)
+four-summed (a ∷ b ∷ c ∷ d ∷ []) e s = refl
+four-summed (a ∷ b ∷ c ∷ d ∷ x ∷ rest) e s = absurd (omega arith)
+
+-- the sums after a tick, from what its parts answer
+pub after-by : (s : Sums) (opens shows : Bool) (four : List Dot) → length four ≡ 4 → (n b a₁ a₂ a₃ a₄ out : Sums) → n ≡ none → b ≡ cond opens n s →
+    a₁ ≡ added b (getD four 0 black) → a₂ ≡ added a₁ (getD four 1 black) → a₃ ≡ added a₂ (getD four 2 black) → a₄ ≡ added a₃ (getD four 3 black) →
+    out ≡ cond shows a₄ b → out ≡ summedWhere shows (clearedAt opens s) four
+after-by s opens shows four e n b a₁ a₂ a₃ a₄ out en eb e₁ e₂ e₃ e₄ eo = eo ∙ rw (e₄, e₃, e₂, e₁, four-summed four e b, eb, en)

@@ -1,4 +1,5 @@
 -- The checksums (01, "Rows and pixels"): each unblanked colour byte is added to its 24-bit sum. Assumes nothing.
+use mathlib.Core.Bool.{Bool, cond}
 use mathlib.Core.List.{List, [], _∷_}
 use Rattle.base.specs.Sum.{rolled}
 use Rattle.colour.specs.Colour.{red, green, blue}
@@ -20,3 +21,11 @@ added s dot =
 unfoldable pub summed : Sums → List Dot → Sums
 summed s [] = s
 summed s (dot ∷ rest) = summed (added s dot) rest
+
+-- sums clear at the first VDisplay tick, which opens it
+abbrev pub clearedAt : Bool → Sums → Sums
+clearedAt opens s = cond opens none s
+
+-- the pixels of a tick that shows are summed, and of no other
+abbrev pub summedWhere : Bool → Sums → List Dot → Sums
+summedWhere shows s dots = cond shows (summed s dots) s

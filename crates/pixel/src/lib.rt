@@ -1,7 +1,8 @@
 // One pixel (01, "Rows and pixels"): from picture memory through mask, palette and cursor to the colour put out, and its checksums.
 ghost use mathlib.Core.Path.{_≡_};
+ghost use mathlib.Core.Bool.{cond};
 ghost use Rattle.pixel.specs.Dot.{dotAt};
-ghost use Rattle.pixel.specs.Sums.{none, added};
+ghost use Rattle.pixel.specs.Sums.{none, added, clearedAt, summedWhere};
 
 // A pixel that goes out: its colour, red in bits 23 to 16, green, blue.
 #[repr(C)]
@@ -40,6 +41,12 @@ pub fn dot_at(
     }
 }
 
+fn chosen(test: bool, sums: Sums, other: Sums) -> Sums
+    ensures chosen { λ r. ⌜ r ≡ cond test sums other ⌝ }
+{
+    if test { sums } else { other }
+}
+
 impl Sums {
     // The sums before any dot.
     pub fn none() -> Sums
@@ -64,5 +71,17 @@ impl Sums {
             green: base::rolled_sum(self.green, green),
             blue: base::rolled_sum(self.blue, blue),
         }
+    }
+    // The sums after a tick: cleared where it opens VDisplay, and its four pixels added where it shows them.
+    pub fn after(self, opens: bool, shows: bool, four: [Dot; 4]) -> Sums
+        ensures sums { λ r. ⌜ r ≡ summedWhere shows (clearedAt opens self) four ⌝ }
+    {
+        let before = chosen(opens, Sums::none(), self);
+        let sums = before
+            .added(four[0])
+            .added(four[1])
+            .added(four[2])
+            .added(four[3]);
+        chosen(shows, sums, before)
     }
 }

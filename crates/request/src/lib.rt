@@ -1,6 +1,6 @@
 // The transfer request (01, "Rows and pixels"). Any numbers may be asked about.
 ghost use mathlib.Core.Path.{_≡_};
-ghost use Rattle.request.specs.Request.{asking, requested};
+ghost use Rattle.request.specs.Request.{asking, leading, requested};
 
 // The request at visible tick v, with transfers on or off. A row of no length asks at every tick.
 pub fn is_asking(on: bool, meminit: u32, delay: u32, v: u64) -> bool
@@ -12,6 +12,15 @@ pub fn is_asking(on: bool, meminit: u32, delay: u32, v: u64) -> bool
         return on;
     }
     on & (least <= v % row)
+}
+
+// The prelude: tick `at` of a half line is one of the `delay` ticks just before the frame's first visible one.
+pub fn is_leading(half: u32, at: u32, line: u32, blank: u32, from: u32, delay: u32) -> bool
+    ensures test { λ b. ⌜ b ≡ leading half at line blank from delay ⌝ }
+{
+    let number = half as u64 * line as u64 + at as u64;
+    let first = blank as u64 * line as u64 + from as u64;
+    (number < first) & (first <= number + delay as u64)
 }
 
 // The request at any tick: what it asks at a visible one, its prelude before the first, and what is kept between lines.

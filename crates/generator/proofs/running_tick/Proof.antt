@@ -2,7 +2,7 @@
 use mathlib.Core.Path.{sym, ap, _∙_}
 use borrow.Author.Needs.{needs}
 use Rattle.generator.specs.Tick.{signalsWith}
-use Rattle.generator.proofs.Puts.{tick-20, tick-0}
+use Rattle.generator.proofs.Puts.{sums-by, tick-20, tick-0}
 use Rattle.generator.proofs.running_tick.Statement.{statement}
 use Rattle.generator.proofs.running_tick.Tie as tie
 
@@ -28,5 +28,5 @@ running-tick-spec =
     tick-0 (start .args .r) (start .args .g) (start .args .memory .now) (start .pre .runs)
     (sym (c .before .before .is-refused .ensures) ∙ c .before .if1 .left) _ _ _
     (c .signals-of .ensures ∙ ap (signalsWith (start .args .r) (start .args .g)) (dots .dots-of .ensures))
-    (next .before .sums-of .ensures)
+    (sums-by (start .args .r) (start .args .memory .now) (start .args .g) _ (dots .before .stand-of .ensures) _ (dots .dots-of .ensures) _ (next .before .after .ensures))
     (next .next-of .ensures)))

@@ -1,0 +1,2 @@
+-- What fits 64 bits.
+mod Bounds
