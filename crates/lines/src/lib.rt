@@ -28,14 +28,6 @@ pub struct Moment {
     pub at: u64,
 }
 
-// A register as a count, with its bound.
-fn count(number: u32) -> u64
-    ensures same { λ r. ⌜ r ≡ number ⌝ }
-    ensures bound { λ r. ⌜ r < 0x100000000 ⌝ }
-{
-    number as u64
-}
-
 fn in_period(test: bool, period: Period, later: Period) -> Period
     ensures chosen { λ r. ⌜ r ≡ cond test period later ⌝ }
 {
@@ -94,17 +86,17 @@ fn is_low(plain: bool, period: Period, at: u64, tick: u64, halfsync: u64, broadp
 pub fn moment_of(params: [u32; 14], plain: bool, half: u32, at: u32) -> Moment
     ensures moment { λ m. ⌜ m ≡ momentOf (screenOf params) plain half at ⌝ }
 {
-    let line = count(params[10]) / 2;
-    let pre = count(params[6]);
-    let sync = pre + count(params[5]);
-    let post = sync + count(params[7]);
-    let blank = post + count(params[8]);
-    let frame = blank + count(params[9]);
-    let halfsync = count(params[0]);
-    let from = 2 * halfsync + count(params[1]);
-    let to = from + count(params[2]);
-    let number = count(half);
-    let place = count(at);
+    let s = units::screen_of(params);
+    let line = s.linetime.0 / 2;
+    let pre = s.vpreequalise.0;
+    let sync = pre + s.vsync.0;
+    let post = sync + s.vpostequalise.0;
+    let blank = post + s.vblank.0;
+    let frame = blank + s.vdisplay.0;
+    let from = 2 * s.halfsync.0 + s.backporch.0;
+    let to = from + s.display.0;
+    let number = half as u64;
+    let place = at as u64;
     let tick = base::choose((number + post) % 2 == 1, line + place, place);
     let period = period_of(number, pre, sync, post, blank);
     let vdisplay = is_vdisplay(period);
@@ -113,7 +105,7 @@ pub fn moment_of(params: [u32; 14], plain: bool, half: u32, at: u32) -> Moment
         vsync: is_vsync(period),
         vdisplay,
         visible: vdisplay & ((from <= tick) & (tick < to)),
-        low: is_low(plain, period, place, tick, halfsync, count(params[4])),
+        low: is_low(plain, period, place, tick, s.halfsync.0, s.broadpulse.0),
         opens: (number == blank) & (place == 0),
         closes: (frame <= number + 1) & (line <= place + 1),
         half: base::choose(place + 1 < line, number, next),

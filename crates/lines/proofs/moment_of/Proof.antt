@@ -1,80 +1,60 @@
 -- `lines::moment_of` meets its contract: each part by its own test, over counts that 32 bits bound.
+use Prim.Native.Nat.{ℕ}
 use native.Mathlib.Omega.{arith}
-use lib.Dec.{lit<}
+use mir.Syntax.{w32}
+use mir.Val.{Fits}
 use borrow.Author.Needs.{needs}
-use Rattle.lines.proofs.Moments.{moment-by}
+use lib.ListN.{getD}
+use Rattle.lines.proofs.Moments.{Narrow, narrow, moment-by}
 use Rattle.lines.proofs.moment_of.Statement.{statement}
 use Rattle.lines.proofs.moment_of.Tie as tie
+
+-- a register fits 32 bits, and so does each count of the screen that is made of them
+fits : (start : tie.Start) (i : ℕ) → Fits w32 (getD (start .args .params) i 0)
+fits start i = search needs
+
+counts : (c : tie.After-screen-of) → Narrow (c .screen-of .result)
+counts c = narrow (c .before .args .params) (fits (c .before)) _ (c .screen-of .ensures)
 
 pub moment-of-spec : {M : Type 1} → statement M
 moment-of-spec =
     tie.close
     (tie.spec
-    (λ c. lit< tt)
     (λ c κs. tt)
-    (λ c. lit< tt)
-    (λ c κs. tt)
-    (λ c. lit< tt)
-    (λ c κs. tt)
-    (λ c. omega arith)
-    (λ c. lit< tt)
-    (λ c κs. tt)
-    (λ c. omega arith)
-    (λ c. lit< tt)
-    (λ c κs. tt)
-    (λ c. omega arith)
-    (λ c. lit< tt)
-    (λ c κs. tt)
-    (λ c. omega arith)
-    (λ c. lit< tt)
-    (λ c κs. tt)
-    (λ c. omega arith)
-    (λ c. lit< tt)
-    (λ c κs. tt)
-    (λ c. omega arith)
-    (λ c. lit< tt)
-    (λ c κs. tt)
-    (λ c. omega arith)
-    (λ c κs. tt)
-    (λ c κs. tt)
-    (λ c. omega arith)
-    (λ c. omega arith)
+    (λ c. omega (arith, counts (c .before .before)))
+    (λ c. omega (arith, counts (c .before .before .before)))
+    (λ c. omega (arith, counts (c .before .before .before .before)))
+    (λ c. omega (arith, counts (c .before .before .before .before .before)))
+    (λ c. omega (arith, counts (c .before .before .before .before .before .before)))
+    (λ c. omega (arith, counts (c .before .before .before .before .before .before .before)))
+    (λ c. omega (arith, counts (c .before .before .before .before .before .before .before .before)))
+    (λ c. let screen = c .before .before .before .before .before .before .before .before in omega (arith, counts screen, screen .before .fits))
+    (λ c. let screen = c .before .before .before .before .before .before .before .before in omega (arith, counts screen, screen .before .fits))
     (λ c κs. tt)
     (λ c κs. tt)
     (λ c κs. tt)
-    (λ c. omega arith)
-    (λ c. omega arith)
+    (λ c. let screen = c .before .before .before .before .before .before .before .before .before .before .before in omega (arith, counts screen, screen .before .fits))
+    (λ c. let screen = c .before .before .before .before .before .before .before .before .before .before .before in omega (arith, counts screen, screen .before .fits))
     (λ c κs. tt)
     (λ c κs. tt)
-    (λ c. lit< tt)
+    (λ c κs. counts (c .before .before .before .before .before .before .before .before .before .before .before .before .before) .halfsync)
+    (λ c. let screen = c .before .before .before .before .before .before .before .before .before .before .before .before .before .before in omega (arith, counts screen, screen .before .fits))
+    (λ c. let screen = c .before .before .before .before .before .before .before .before .before .before .before .before .before .before in omega (arith, counts screen, screen .before .fits))
+    (λ c. let screen = c .before .before .before .before .before .before .before .before .before .before .before .before .before .before in omega (arith, counts screen, screen .before .fits))
     (λ c κs. tt)
-    (λ c κs. search needs)
-    (λ c. omega arith)
-    (λ c. omega arith)
-    (λ c. omega arith)
-    (λ c κs. tt)
-    (λ c. omega arith)
-    (λ c. omega arith)
+    (λ c. let screen = c .before .before .before .before .before .before .before .before .before .before .before .before .before .before .before in omega (arith, counts screen, screen .before .fits))
+    (λ c. let screen = c .before .before .before .before .before .before .before .before .before .before .before .before .before .before .before in omega (arith, counts screen, screen .before .fits))
     (λ c κs. tt)
     (λ c.
-    let start = c .before .before .before .before .before .before .before .before .before .before .before .before .before .before .before .before .before .before .before .before in
-    moment-by _ (start .args .plain) (start .args .half) (start .args .at) _ _ _ _ _ _ _ _ _ _ _ _
-    (c .before .before .before .before .before .before .before .before .before .before .before .before .before .before .before .before .before .before .before .count .ensures .0)
-    (c .before .before .before .before .before .before .before .before .before .before .before .before .before .before .before .before .before .before .count2 .ensures .0)
-    (c .before .before .before .before .before .before .before .before .before .before .before .before .before .before .before .before .before .count3 .ensures .0)
-    (c .before .before .before .before .before .before .before .before .before .before .before .before .before .before .before .before .count4 .ensures .0)
-    (c .before .before .before .before .before .before .before .before .before .before .before .before .before .before .before .count5 .ensures .0)
-    (c .before .before .before .before .before .before .before .before .before .before .before .before .before .before .count6 .ensures .0)
-    (c .before .before .before .before .before .before .before .before .before .before .before .before .before .count7 .ensures .0)
-    (c .before .before .before .before .before .before .before .before .before .before .before .before .count8 .ensures .0)
-    (c .before .before .before .before .before .before .before .before .before .before .before .count9 .ensures .0)
-    (c .before .before .before .before .before .before .before .before .before .before .count10 .ensures .0)
-    (c .before .before .before .before .before .before .before .before .before .count11 .ensures .0)
-    (c .before .before .before .count12 .ensures .0)
-    _ (c .before .before .before .before .before .before .before .before .choose .ensures)
-    _ (c .before .before .before .before .before .before .before .period-of .ensures)
-    _ _ _ (c .before .before .before .before .before .before .is-vdisplay .ensures)
-    _ (c .before .before .before .before .before .choose2 .ensures)
-    (c .before .before .before .before .is-vsync .ensures)
-    (c .before .before .is-low .ensures)
-    _ _ (c .before .choose3 .ensures) (c .choose4 .ensures)))
+    let low = c .before .before in
+    let shown = low .before .before .before in
+    let screen = shown .before .before .before .before .before .before .before .before .before .before .before in
+    moment-by (screen .screen-of .result) (screen .before .args .plain) (screen .before .args .half) (screen .before .args .at)
+    _ (shown .before .before .choose .ensures)
+    _ (shown .before .period-of .ensures)
+    _ _ _ (shown .is-vdisplay .ensures)
+    _ (low .before .before .choose2 .ensures)
+    (low .before .is-vsync .ensures)
+    (low .is-low .ensures)
+    _ _ (c .before .choose3 .ensures) (c .choose4 .ensures)
+    _ (screen .screen-of .ensures)))
