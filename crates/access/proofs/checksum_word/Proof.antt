@@ -9,14 +9,14 @@ pub checksum-word-spec : {M : Type 1} → statement M
 checksum-word-spec =
     tie.close
     (tie.spec
-    (λ c. search needs)
+    (λ c. omega arith)
     (λ c. search needs)
     (λ c. omega (arith, byte-positive _ (c .before .if1 .taken)))
     (λ c. omega (arith, byte-positive _ (c .before .before .if1 .taken)))
     (λ c. omega (arith, byte-positive _ (c .before .before .before .if1 .taken)))
-    (λ c. search needs)
-    (λ c. search needs)
-    (λ c. search needs)
-    (λ c. search needs)
+    (λ c. omega arith)
+    (λ c. omega arith)
+    (λ c. omega arith)
+    (λ c. omega arith)
     (λ c. word-within _ _ (c .before .before .before .if1 .taken))
     (λ c. word-past _ _ (c .if1 .left)))

@@ -1,6 +1,5 @@
 -- `access::start_limit` meets its contract: the limits under the new control value.
 use Rattle.access.specs.Access.{startLimit}
-use borrow.Author.Needs.{needs}
 use Rattle.access.proofs.start_limit.Statement.{statement}
 use Rattle.access.proofs.start_limit.Tie as tie
 
@@ -9,9 +8,9 @@ unfolding startLimit
 start-limit-spec =
     tie.close
     (tie.spec
-    (λ c κs. search needs)
-    (λ c κs. search needs)
-    (λ c κs. search needs)
-    (λ c κs. search needs)
-    (λ c κs. search needs)
+    (λ c κs. tt)
+    (λ c κs. tt)
+    (λ c κs. tt)
+    (λ c κs. tt)
+    (λ c κs. tt)
     (λ c. rw (c .first .ensures, c .before .limit .ensures, c .before .before .is-running .ensures, c .before .before .before .is-control .ensures, c .before .before .before .before .screen-of .ensures)))

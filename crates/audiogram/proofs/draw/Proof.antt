@@ -48,11 +48,11 @@ draw-spec =
     (tie.spec
     Inv-loop
     μ-loop
-    (λ c κs. search needs)
+    (λ c κs. tt)
     loop-holds
     byte-at-requires
     slice-write-memory
-    (λ c. search needs)
+    (λ c. omega arith)
     (λ c. search needs)
     loop-again
     same-length

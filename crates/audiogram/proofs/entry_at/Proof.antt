@@ -2,7 +2,6 @@
 use mathlib.Core.Path.{_≡_}
 use native.Mathlib.Omega.{arith}
 use Rattle.audiogram.proofs.Cases.{entry-right, entry-left, entry-form, entry-paper}
-use borrow.Author.Needs.{needs}
 use Rattle.audiogram.proofs.entry_at.Statement.{statement}
 use Rattle.audiogram.proofs.entry_at.Tie as tie
 
@@ -10,10 +9,10 @@ pub entry-at-spec : {M : Type 1} → statement M
 entry-at-spec =
     tie.close
     (tie.spec
-    (λ c κs. search needs)
+    (λ c κs. tt)
     (λ c. (entry-right _ _ _ _ (c .before .shows .ensures) (c .if1 .taken), omega arith))
-    (λ c κs. search needs)
+    (λ c κs. tt)
     (λ c. (entry-left _ _ _ _ (c .before .before .before .shows .ensures) (c .before .before .if1 .left) _ (c .before .shows2 .ensures) (c .if2 .taken), omega arith))
-    (λ c κs. search needs)
+    (λ c κs. tt)
     (λ c. (entry-form _ _ _ _ (c .before .before .before .before .before .shows .ensures) (c .before .before .before .before .if1 .left) _ (c .before .before .before .shows2 .ensures) (c .before .before .if2 .left) _ (c .before .shows3 .ensures) (c .if3 .taken), omega arith))
     (λ c. (entry-paper _ _ _ _ (c .before .before .before .before .before .shows .ensures) (c .before .before .before .before .if1 .left) _ (c .before .before .before .shows2 .ensures) (c .before .before .if2 .left) _ (c .before .shows3 .ensures) (c .if3 .left), omega arith)))

@@ -30,7 +30,7 @@ loop-holds : tie.Need-loop-holds Inv-loop μ-loop
 loop-holds c = ((omega arith, value-first _ _), laid-none _ _ _)
 
 cast-memory : tie.Need-cast-memory Inv-loop μ-loop
-cast-memory c = search needs
+cast-memory c = omega arith
 
 add-memory : tie.Need-add-memory Inv-loop μ-loop
 add-memory c = omega arith
@@ -42,7 +42,7 @@ add-value : tie.Need-add-value Inv-loop μ-loop
 add-value c = let many : c .before .loop .i ≤ 1048576 = omega arith in let wide : c .before .before .before .before .before .args .step ≤ 4294967295 = omega arith in omega (arith, mul-le-mul many wide)
 
 add-i : tie.Need-add-i Inv-loop μ-loop
-add-i c = search needs
+add-i c = omega arith
 
 loop-less : tie.Need-loop-less Inv-loop μ-loop
 loop-less c = search needs

@@ -8,11 +8,11 @@ pub is-covered-spec : {M : Type 1} → statement M
 is-covered-spec =
     tie.close
     (tie.spec
+    (λ c κs. tt)
     (λ c κs. search needs)
     (λ c κs. search needs)
-    (λ c κs. search needs)
-    (λ c κs. search needs)
-    (λ c κs. search needs)
+    (λ c κs. tt)
+    (λ c κs. tt)
     (λ c. search needs)
-    (λ c κs. search needs)
+    (λ c κs. tt)
     (λ c. search covered-made))

@@ -1,4 +1,5 @@
 -- `ear::point_of` meets its contract. Assumes nothing.
+use native.Mathlib.Omega.{arith}
 use Rattle.ear.proofs.Cases.{point-made}
 use borrow.Author.Needs.{needs}
 use Rattle.ear.proofs.point_of.Statement.{statement}
@@ -9,10 +10,10 @@ point-of-spec =
     tie.close
     (tie.spec
     (λ c. search needs)
-    (λ c κs. search needs)
+    (λ c κs. tt)
+    (λ c. omega arith)
+    (λ c. omega arith)
     (λ c. search needs)
-    (λ c. search needs)
-    (λ c. search needs)
-    (λ c. search needs)
-    (λ c. search needs)
+    (λ c. omega arith)
+    (λ c. omega arith)
     (λ c. search point-made))

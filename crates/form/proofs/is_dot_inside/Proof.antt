@@ -8,6 +8,6 @@ pub is-dot-inside-spec : {M : Type 1} → statement M
 is-dot-inside-spec =
     tie.close
     (tie.spec
-    (λ c κs. search needs)
+    (λ c κs. tt)
     (λ c. search inside-made)
     (λ c. search needs))

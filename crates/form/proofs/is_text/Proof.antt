@@ -1,6 +1,5 @@
 -- `form::is_text` meets its contract. Assumes nothing.
 use Rattle.form.proofs.Cases.{text-made}
-use borrow.Author.Needs.{needs}
 use Rattle.form.proofs.is_text.Statement.{statement}
 use Rattle.form.proofs.is_text.Tie as tie
 
@@ -8,9 +7,9 @@ pub is-text-spec : {M : Type 1} → statement M
 is-text-spec =
     tie.close
     (tie.spec
-    (λ c κs. search needs)
-    (λ c κs. search needs)
-    (λ c κs. search needs)
-    (λ c κs. search needs)
-    (λ c κs. search needs)
+    (λ c κs. tt)
+    (λ c κs. tt)
+    (λ c κs. tt)
+    (λ c κs. tt)
+    (λ c κs. tt)
     (λ c. search text-made))

@@ -31,10 +31,10 @@ shows-spec =
     (tie.spec
     Inv-loop
     μ-loop
-    (λ c κs. search needs)
+    (λ c κs. tt)
     loop-holds
     (λ c κs. search needs)
-    (λ c. search needs)
+    (λ c. omega arith)
     (λ c. search needs)
     loop-again
     returns)

@@ -3,7 +3,6 @@ use Prim.Native.Nat.{ℕ, _<_, _^_}
 use mathlib.Core.Bool.{Bool, true}
 use mathlib.Core.Path.{_≡_, sym, ap, _∙_}
 use native.Mathlib.Omega.{arith}
-use borrow.Author.Needs.{needs}
 use Rattle.control.specs.Control.{running}
 use Rattle.limits.proofs.Laws.{narrow}
 use Rattle.registers.specs.declared.Registers.{Registers}
@@ -34,12 +33,12 @@ pub is-displaying-spec : {M : Type 1} → statement M
 is-displaying-spec =
     tie.close
     (tie.spec
-    (λ c κs. search needs)
+    (λ c κs. tt)
     (λ c.
     let run = c .before .before in
     let start = run .before .before in
     omega (arith, half-in (start .args .r) (start .args .g) (start .pre) (sym (run .is-running .ensures) ∙ c .before .if1 .taken)))
-    (λ c κs. search needs)
+    (λ c κs. tt)
     (λ c.
     let run = c .before .before .before in
     let start = run .before .before in

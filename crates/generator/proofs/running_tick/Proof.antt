@@ -12,10 +12,10 @@ running-tick-spec =
     (tie.spec
     (λ c κs. search needs)
     (λ c κs. search needs)
+    (λ c κs. tt)
     (λ c κs. search needs)
     (λ c κs. search needs)
-    (λ c κs. search needs)
-    (λ c κs. search needs)
+    (λ c κs. tt)
     (λ c.
     let start = c .before .before .before .before .before .before .before .before in
     tick-20 (start .args .r) (start .args .g) (start .args .memory .now) (start .pre .runs) _ (c .silence .ensures)

@@ -9,13 +9,13 @@ pub tick-spec : {M : Type 1} → statement M
 tick-spec =
     tie.close
     (tie.spec
-    (λ c κs. search needs)
+    (λ c κs. tt)
     (λ c κs.
     let start = c .before .before .before in
     let on = sym (c .before .is-running .ensures) ∙ c .if1 .taken in
     record { runs = on; top-in = start .pre .held .top; accepted = start .pre .accepted on; placed = start .pre .placed on })
     (λ c. search needs)
-    (λ c κs. search needs)
+    (λ c κs. tt)
     (λ c.
     let start = c .before .before .before .before in
     tick-23 (start .args .r) (start .args .g) (start .args .memory .now) _ (c .silence .ensures)

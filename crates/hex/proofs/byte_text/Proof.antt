@@ -1,16 +1,15 @@
 -- `hex::byte_text` meets its contract.
-use borrow.Author.Needs.{needs}
 use Rattle.hex.proofs.byte_text.Statement.{statement}
 use Rattle.hex.proofs.byte_text.Tie as tie
 
 wide-requires : tie.Need-wide-requires
-wide-requires c κs = search needs
+wide-requires c κs = tt
 
 glyph-requires : tie.Need-glyph-requires
-glyph-requires c κs = search needs
+glyph-requires c κs = tt
 
 glyph-requires-2 : tie.Need-glyph-requires-2
-glyph-requires-2 c κs = search needs
+glyph-requires-2 c κs = tt
 
 returns : tie.Need-returns
 returns c = rw (c .glyph2 .ensures, c .before .glyph .ensures, c .before .before .wide .ensures .0)

@@ -18,7 +18,7 @@ returns-2 : tie.Need-returns-2
 returns-2 c = (simp length-take (omega arith), line-none _ _ (c .before .before .before .args .ended) (c .before .if2 .taken))
 
 sub-last : tie.Need-sub-last
-sub-last c = search needs
+sub-last c = omega arith
 
 shared-slice-read-if3 : tie.Need-shared-slice-read-if3
 shared-slice-read-if3 c = search needs

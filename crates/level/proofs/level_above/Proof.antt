@@ -2,12 +2,11 @@
 use Rattle.level.proofs.Cases.{wrong-none, above-good, above-wrong}
 use native.Mathlib.Omega.{arith}
 use mathlib.Core.Path.{sym, _∙_}
-use borrow.Author.Needs.{needs}
 use Rattle.level.proofs.level_above.Statement.{statement}
 use Rattle.level.proofs.level_above.Tie as tie
 
 wrong-number-requires : tie.Need-wrong-number-requires
-wrong-number-requires c κs = search needs
+wrong-number-requires c κs = tt
 
 add-stepped : tie.Need-add-stepped
 add-stepped c = omega (arith, wrong-none (c .before .before .before .args .n) 120 (sym (c .before .before .wrong-number .ensures) ∙ c .before .if1 .taken))

@@ -7,10 +7,10 @@ use Rattle.level.proofs.level_below.Statement.{statement}
 use Rattle.level.proofs.level_below.Tie as tie
 
 wrong-number-requires : tie.Need-wrong-number-requires
-wrong-number-requires c κs = search needs
+wrong-number-requires c κs = tt
 
 less-requires : tie.Need-less-requires
-less-requires c κs = search needs
+less-requires c κs = tt
 
 stepped-requires : tie.Need-stepped-requires
 stepped-requires c κs = search needs

@@ -1,17 +1,16 @@
 -- `level::plain_number` meets its contract. Assumes nothing.
 use Rattle.level.proofs.Cases.{number-hexadecimal, number-plain}
-use borrow.Author.Needs.{needs}
 use Rattle.level.proofs.plain_number.Statement.{statement}
 use Rattle.level.proofs.plain_number.Tie as tie
 
 head-requires : tie.Need-head-requires
-head-requires c κs = search needs
+head-requires c κs = tt
 
 returns : tie.Need-returns
 returns c = search number-hexadecimal
 
 number-of-requires : tie.Need-number-of-requires
-number-of-requires c κs = search needs
+number-of-requires c κs = tt
 
 returns-2 : tie.Need-returns-2
 returns-2 c = search number-plain

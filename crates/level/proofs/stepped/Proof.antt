@@ -1,11 +1,11 @@
 -- `level::stepped` meets its contract. Assumes nothing.
+use native.Mathlib.Omega.{arith}
 use Rattle.level.proofs.Cases.{step-whole, step-part}
-use borrow.Author.Needs.{needs}
 use Rattle.level.proofs.stepped.Statement.{statement}
 use Rattle.level.proofs.stepped.Tie as tie
 
 cast-t5 : tie.Need-cast-t5
-cast-t5 c = search needs
+cast-t5 c = omega arith
 
 returns : tie.Need-returns
 returns c = step-whole _ (c .if1 .taken)

@@ -9,7 +9,7 @@ returns : tie.Need-returns
 returns c = none-left (c .before .args .word .now) (omega arith)
 
 sub-result : tie.Need-sub-result
-sub-result c = search needs
+sub-result c = omega arith
 
 part-result-start : tie.Need-part-result-start
 part-result-start c = search needs

@@ -1,6 +1,5 @@
 -- `level::wrong_number` meets its contract. Assumes nothing.
 use Rattle.level.proofs.Cases.{wrong-made}
-use borrow.Author.Needs.{needs}
 use Rattle.level.proofs.wrong_number.Statement.{statement}
 use Rattle.level.proofs.wrong_number.Tie as tie
 
@@ -8,6 +7,6 @@ pub wrong-number-spec : {M : Type 1} → statement M
 wrong-number-spec =
     tie.close
     (tie.spec
-    (λ c κs. search needs)
-    (λ c κs. search needs)
+    (λ c κs. tt)
+    (λ c κs. tt)
     (λ c. search wrong-made))

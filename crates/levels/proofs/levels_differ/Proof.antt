@@ -1,5 +1,4 @@
 -- `levels::levels_differ` meets its contract.
-use borrow.Author.Needs.{needs}
 use Rattle.levels.proofs.levels_differ.Statement.{statement}
 use Rattle.levels.proofs.levels_differ.Tie as tie
 
@@ -10,10 +9,10 @@ pub levels-differ-spec : {M : Type 1} → statement M
 levels-differ-spec =
     tie.close
     (tie.spec
-    (λ c κs. search needs)
-    (λ c κs. search needs)
-    (λ c κs. search needs)
-    (λ c κs. search needs)
-    (λ c κs. search needs)
-    (λ c κs. search needs)
+    (λ c κs. tt)
+    (λ c κs. tt)
+    (λ c κs. tt)
+    (λ c κs. tt)
+    (λ c κs. tt)
+    (λ c κs. tt)
     returns)

@@ -9,12 +9,12 @@ unfolding readRefusal
 read-refusal-spec =
     tie.close
     (tie.spec
+    (λ c κs. tt)
+    (λ c κs. tt)
+    (λ c κs. tt)
     (λ c κs. search needs)
-    (λ c κs. search needs)
-    (λ c κs. search needs)
-    (λ c κs. search needs)
-    (λ c κs. search needs)
-    (λ c κs. search needs)
-    (λ c κs. search needs)
-    (λ c κs. search needs)
+    (λ c κs. tt)
+    (λ c κs. tt)
+    (λ c κs. tt)
+    (λ c κs. tt)
     (λ c. rw (c .first3 .ensures, c .before .is-reserved .ensures, c .before .before .first2 .ensures, c .before .before .before .first .ensures, c .before .before .before .before .is-displaying .ensures, c .before .before .before .before .before .is-checksum .ensures, c .before .before .before .before .before .before .is-running .ensures, c .before .before .before .before .before .before .before .is-parameter .ensures)))

@@ -1,6 +1,5 @@
 -- `machine::value_at` meets its contract: a checksum from the sums, all else from the file.
 use Rattle.machine.specs.Rules.{valueAt}
-use borrow.Author.Needs.{needs}
 use Rattle.machine.proofs.value_at.Statement.{statement}
 use Rattle.machine.proofs.value_at.Tie as tie
 
@@ -9,9 +8,9 @@ unfolding valueAt
 value-at-spec =
     tie.close
     (tie.spec
-    (λ c κs. search needs)
-    (λ c κs. search needs)
-    (λ c κs. search needs)
-    (λ c κs. search needs)
-    (λ c κs. search needs)
+    (λ c κs. tt)
+    (λ c κs. tt)
+    (λ c κs. tt)
+    (λ c κs. tt)
+    (λ c κs. tt)
     (λ c. rw (c .first .ensures, c .before .value .ensures, c .before .before .is-checksum .ensures, c .before .before .before .checksum-word .ensures, c .before .before .before .before .number-of .ensures)))

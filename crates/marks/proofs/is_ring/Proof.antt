@@ -1,5 +1,4 @@
 -- `marks::is_ring` meets its contract. Assumes nothing.
-use borrow.Author.Needs.{needs}
 use Rattle.marks.proofs.is_ring.Statement.{statement}
 use Rattle.marks.proofs.is_ring.Tie as tie
 
@@ -7,5 +6,5 @@ pub is-ring-spec : {M : Type 1} → statement M
 is-ring-spec =
     tie.close
     (tie.spec
-    (λ c κs. search needs)
+    (λ c κs. tt)
     (λ c. rw (c .distance .ensures)))

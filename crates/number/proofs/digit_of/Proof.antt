@@ -3,30 +3,29 @@ use mathlib.Core.Path.{_≡_}
 use Rattle.number.specs.Numbers.{digitOf}
 use Rattle.number.proofs.Digits.{digit-bound}
 use native.Mathlib.Omega.{arith}
-use borrow.Author.Needs.{needs}
 use Rattle.number.proofs.digit_of.Statement.{statement}
 use Rattle.number.proofs.digit_of.Tie as tie
 
 wide-requires : tie.Need-wide-requires
-wide-requires c κs = search needs
+wide-requires c κs = tt
 
 less-requires : tie.Need-less-requires
-less-requires c κs = search needs
+less-requires c κs = tt
 
 first-requires : tie.Need-first-requires
-first-requires c κs = search needs
+first-requires c κs = tt
 
 less-requires-2 : tie.Need-less-requires-2
-less-requires-2 c κs = search needs
+less-requires-2 c κs = tt
 
 first-requires-2 : tie.Need-first-requires-2
-first-requires-2 c κs = search needs
+first-requires-2 c κs = tt
 
 less-requires-3 : tie.Need-less-requires-3
-less-requires-3 c κs = search needs
+less-requires-3 c κs = tt
 
 first-requires-3 : tie.Need-first-requires-3
-first-requires-3 c κs = search needs
+first-requires-3 c κs = tt
 
 returns : tie.Need-returns
 returns c = let a = c .before .before .before .before .before .before in let e : c .first3 .result ≡ digitOf (a .before .args .byte) = cc in (e, omega (arith, e, digit-bound (a .before .args .byte) (omega arith)))

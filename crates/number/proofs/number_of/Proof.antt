@@ -1,4 +1,5 @@
 -- `number::number_of` meets its contract, by each way out.
+use native.Mathlib.Omega.{arith}
 use mathlib.Core.Path.{_∙_, ap}
 use Rattle.number.specs.Numbers.{digitsNumber}
 use mathlib.Core.Bool.{true}
@@ -8,7 +9,7 @@ use Rattle.number.proofs.number_of.Statement.{statement}
 use Rattle.number.proofs.number_of.Tie as tie
 
 digits-number-requires : tie.Need-digits-number-requires
-digits-number-requires c κs = search needs
+digits-number-requires c κs = tt
 
 returns : tie.Need-returns
 returns c = word-empty _ _ (c .before .if1 .taken) (c .digits-number .ensures)
@@ -17,7 +18,7 @@ shared-slice-read-if2 : tie.Need-shared-slice-read-if2
 shared-slice-read-if2 c = search needs
 
 sub-digits-number : tie.Need-sub-digits-number
-sub-digits-number c = search needs
+sub-digits-number c = omega arith
 
 part-digits-number-start : tie.Need-part-digits-number-start
 part-digits-number-start c = search needs
@@ -26,13 +27,13 @@ part-digits-number-end : tie.Need-part-digits-number-end
 part-digits-number-end c = search needs
 
 digits-number-requires-2 : tie.Need-digits-number-requires-2
-digits-number-requires-2 c κs = search needs
+digits-number-requires-2 c κs = tt
 
 returns-2 : tie.Need-returns-2
 returns-2 c = let word = c .before .before .before .before .before .before .args .word .now in word-hexadecimal word _ (c .before .before .if2 .taken) (c .digits-number2 .ensures ∙ ap (digitsNumber true) (tail-whole word))
 
 digits-number-requires-3 : tie.Need-digits-number-requires-3
-digits-number-requires-3 c κs = search needs
+digits-number-requires-3 c κs = tt
 
 returns-3 : tie.Need-returns-3
 returns-3 c = word-decimal _ _ (c .before .if2 .left) (c .digits-number3 .ensures)

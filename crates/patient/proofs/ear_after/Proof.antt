@@ -1,4 +1,5 @@
 -- `patient::ear_after` meets its contract. Assumes nothing.
+use native.Mathlib.Omega.{arith}
 use mathlib.Core.Path.{_∙_, ap}
 use Rattle.level.specs.Levels.{levelOf}
 use borrow.Author.Needs.{needs}
@@ -9,9 +10,9 @@ pub ear-after-spec : {M : Type 1} → statement M
 ear-after-spec =
     tie.close
     (tie.spec
-    (λ c κs. search needs)
+    (λ c κs. tt)
+    (λ c. omega arith)
     (λ c. search needs)
     (λ c. search needs)
-    (λ c. search needs)
-    (λ c κs. search needs)
+    (λ c κs. tt)
     (λ c. let w = c .before .before .word-after .ensures in (c .level-of .ensures ∙ ap levelOf (w .1 .0), w .1 .1)))

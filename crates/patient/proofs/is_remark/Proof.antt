@@ -1,4 +1,5 @@
 -- `patient::is_remark` meets its contract. Assumes nothing.
+use native.Mathlib.Omega.{arith}
 use Rattle.patient.proofs.Cases.{remark-made}
 use borrow.Author.Needs.{needs}
 use Rattle.patient.proofs.is_remark.Statement.{statement}
@@ -8,9 +9,9 @@ pub is-remark-spec : {M : Type 1} → statement M
 is-remark-spec =
     tie.close
     (tie.spec
-    (λ c κs. search needs)
+    (λ c κs. tt)
+    (λ c. omega arith)
     (λ c. search needs)
     (λ c. search needs)
-    (λ c. search needs)
-    (λ c κs. search needs)
+    (λ c κs. tt)
     (λ c. search remark-made))

@@ -1,10 +1,9 @@
 -- `patient::is_silent` meets its contract. Assumes nothing.
-use borrow.Author.Needs.{needs}
 use Rattle.patient.proofs.is_silent.Statement.{statement}
 use Rattle.patient.proofs.is_silent.Tie as tie
 
 head-requires : tie.Need-head-requires
-head-requires c κs = search needs
+head-requires c κs = tt
 
 returns : tie.Need-returns
 returns c = rw (c .head .ensures)

@@ -1,11 +1,10 @@
 -- `patient::read_line` meets its contract. Assumes nothing.
 use Rattle.patient.proofs.Cases.{line-remark, line-long, line-words}
-use borrow.Author.Needs.{needs}
 use Rattle.patient.proofs.read_line.Statement.{statement}
 use Rattle.patient.proofs.read_line.Tie as tie
 
 is-remark-requires : tie.Need-is-remark-requires
-is-remark-requires c κs = search needs
+is-remark-requires c κs = tt
 
 returns : tie.Need-returns
 returns c = search line-remark
@@ -14,7 +13,7 @@ returns-2 : tie.Need-returns-2
 returns-2 c = search line-long
 
 words-read-requires : tie.Need-words-read-requires
-words-read-requires c κs = search needs
+words-read-requires c κs = tt
 
 returns-3 : tie.Need-returns-3
 returns-3 c = search line-words

@@ -1,4 +1,5 @@
 -- `phrases::put_reason` meets its contract: the row of a fault in a table.
+use native.Mathlib.Omega.{arith}
 use Rattle.phrases.proofs.Cases.{row-of}
 use mathlib.Core.Path.{ap, _∙_}
 use lib.ListN.{length}
@@ -34,15 +35,15 @@ put-reason-spec =
     tie.close
     (tie.spec
     (λ c. search needs)
-    (λ c κs. search needs)
-    (λ c. search needs)
-    (λ c. search needs)
+    (λ c κs. tt)
+    (λ c. omega arith)
+    (λ c. omega arith)
     array-read-start
-    (λ c. search needs)
+    (λ c. omega arith)
     array-read-end
     sub-put
     part-put-start
     part-put-end
-    (λ c κs. search needs)
+    (λ c κs. tt)
     (λ c. search needs)
     returns)

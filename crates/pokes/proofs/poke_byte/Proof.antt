@@ -5,7 +5,7 @@ use Rattle.pokes.proofs.poke_byte.Statement.{statement}
 use Rattle.pokes.proofs.poke_byte.Tie as tie
 
 poke-head-requires : tie.Need-poke-head-requires
-poke-head-requires c κs = search needs
+poke-head-requires c κs = tt
 
 array-read-result : tie.Need-array-read-result
 array-read-result c = search needs
@@ -14,10 +14,10 @@ returns : tie.Need-returns
 returns c = poke-front _ _ _ (c .before .if1 .taken) _ (c .poke-head .ensures)
 
 stored-requires : tie.Need-stored-requires
-stored-requires c κs = search needs
+stored-requires c κs = tt
 
 byte-word-requires : tie.Need-byte-word-requires
-byte-word-requires c κs = search needs
+byte-word-requires c κs = tt
 
 array-read-result-2 : tie.Need-array-read-result-2
 array-read-result-2 c = search needs

@@ -39,9 +39,9 @@ poke-text-spec =
     Inv-loop
     μ-loop
     loop-holds
-    (λ c κs. search needs)
+    (λ c κs. tt)
     (λ c. search needs)
-    (λ c. search needs)
+    (λ c. omega arith)
     (λ c. search needs)
     loop-again
     returns)

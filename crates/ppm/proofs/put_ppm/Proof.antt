@@ -19,12 +19,12 @@ put-ppm-spec =
     tie.close
     (tie.spec
     (λ c. search needs)
-    (λ c κs. search needs)
-    (λ c κs. search needs)
+    (λ c κs. tt)
+    (λ c κs. tt)
     (λ c. search needs)
-    (λ c κs. search needs)
-    (λ c κs. search needs)
+    (λ c κs. tt)
+    (λ c κs. tt)
     (λ c. search needs)
-    (λ c κs. search needs)
+    (λ c κs. tt)
     (λ c. search needs)
     returns)

@@ -34,7 +34,7 @@ slice-write-room : tie.Need-slice-write-room Inv-loop μ-loop
 slice-write-room c = omega (arith, ap length (c .before .before .loop .inv .1), laid-length (λ k. getD (c .before .before .before .before .before .args .text .now) k 0) (c .before .before .before .before .before .args .room .now) (c .before .before .before .before .before .args .at) (c .before .before .loop .i))
 
 add-i : tie.Need-add-i Inv-loop μ-loop
-add-i c = search needs
+add-i c = omega arith
 
 loop-less : tie.Need-loop-less Inv-loop μ-loop
 loop-less c = search needs

@@ -14,9 +14,9 @@ pub put-either-spec : {M : Type 1} → statement M
 put-either-spec =
     tie.close
     (tie.spec
-    (λ c κs. search needs)
+    (λ c κs. tt)
     (λ c. search needs)
     returns
-    (λ c κs. search needs)
+    (λ c κs. tt)
     (λ c. search needs)
     returns-2)

@@ -1,23 +1,24 @@
 -- `settings::settings_byte` meets its contract. Assumes nothing.
+use native.Mathlib.Omega.{arith}
 use Rattle.settings.proofs.Cases.{byte-made}
 use borrow.Author.Needs.{needs}
 use Rattle.settings.proofs.settings_byte.Statement.{statement}
 use Rattle.settings.proofs.settings_byte.Tie as tie
 
 mul-setting : tie.Need-mul-setting
-mul-setting c = search needs
+mul-setting c = omega arith
 
 array-read-setting : tie.Need-array-read-setting
 array-read-setting c = search needs
 
 cast-row-text : tie.Need-cast-row-text
-cast-row-text c = search needs
+cast-row-text c = omega arith
 
 cast-row-text-2 : tie.Need-cast-row-text-2
-cast-row-text-2 c = search needs
+cast-row-text-2 c = omega arith
 
 row-text-requires : tie.Need-row-text-requires
-row-text-requires c κs = search needs
+row-text-requires c κs = tt
 
 array-read-result : tie.Need-array-read-result
 array-read-result c = search needs

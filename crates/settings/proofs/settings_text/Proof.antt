@@ -41,7 +41,7 @@ settings-text-spec =
     loop-holds
     (λ c κs. search needs)
     (λ c. search needs)
-    (λ c. search needs)
+    (λ c. omega arith)
     (λ c. search needs)
     loop-again
     returns)

@@ -32,12 +32,12 @@ sheet-values-spec =
     Inv-loop
     μ-loop
     loop-holds
+    (λ c. omega arith)
+    (λ c. omega arith)
     (λ c. search needs)
+    (λ c. omega arith)
     (λ c. search needs)
-    (λ c. search needs)
-    (λ c. search needs)
-    (λ c. search needs)
-    (λ c. search needs)
+    (λ c. omega arith)
     (λ c. search needs)
     loop-again
     returns)

@@ -1,4 +1,5 @@
 -- `store::stored_of` meets its contract: the sheet's values are its numbers past the first.
+use lib.Dec.{lit<}
 use mathlib.Core.Path.{refl}
 use Rattle.store.specs.Store.{storedOf}
 use borrow.Author.Needs.{needs}
@@ -13,9 +14,9 @@ pub stored-of-spec : {M : Type 1} → statement M
 stored-of-spec =
     tie.close
     (tie.spec
+    (λ c. lit< tt)
     (λ c. search needs)
+    (λ c κs. tt)
     (λ c. search needs)
-    (λ c κs. search needs)
-    (λ c. search needs)
-    (λ c κs. search needs)
+    (λ c κs. tt)
     returns)

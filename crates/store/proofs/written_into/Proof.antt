@@ -17,7 +17,7 @@ slice-aggregate-write : tie.Need-slice-aggregate-write
 slice-aggregate-write c = sym (length-take-le _ _ (c .before .if1 .taken))
 
 write-requires : tie.Need-write-requires
-write-requires c κs = search needs
+write-requires c κs = tt
 
 same-length : tie.Need-same-length
 same-length c = search needs
@@ -26,7 +26,7 @@ returns : tie.Need-returns
 returns c = let a = c .before .before .before .before .before .before .args in let w = c .before .before .write .ensures in (search needs, (w .0, ap (λ (l : List ℕ). l ++ drop (a .count) (a .room .now)) (w .1)))
 
 write-requires-2 : tie.Need-write-requires-2
-write-requires-2 c κs = search needs
+write-requires-2 c κs = tt
 
 same-length-2 : tie.Need-same-length-2
 same-length-2 c = search needs

@@ -1,6 +1,5 @@
 -- `thresholds::fault_of` meets its contract. Assumes nothing.
 use Rattle.thresholds.proofs.Cases.{fault-made}
-use borrow.Author.Needs.{needs}
 use Rattle.thresholds.proofs.fault_of.Statement.{statement}
 use Rattle.thresholds.proofs.fault_of.Tie as tie
 
@@ -8,9 +7,9 @@ pub fault-of-spec : {M : Type 1} → statement M
 fault-of-spec =
     tie.close
     (tie.spec
-    (λ c κs. search needs)
-    (λ c κs. search needs)
-    (λ c κs. search needs)
-    (λ c κs. search needs)
-    (λ c κs. search needs)
+    (λ c κs. tt)
+    (λ c κs. tt)
+    (λ c κs. tt)
+    (λ c κs. tt)
+    (λ c κs. tt)
     (λ c. search fault-made))

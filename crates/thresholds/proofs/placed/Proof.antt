@@ -1,20 +1,19 @@
 -- `thresholds::placed` meets its contract. Assumes nothing.
 use Rattle.thresholds.proofs.Cases.{placed-good, placed-wrong, fault-placed}
-use borrow.Author.Needs.{needs}
 use Rattle.thresholds.proofs.placed.Statement.{statement}
 use Rattle.thresholds.proofs.placed.Tie as tie
 
 at-requires : tie.Need-at-requires
-at-requires c κs = search needs
+at-requires c κs = tt
 
 fault-of-requires : tie.Need-fault-of-requires
-fault-of-requires c κs = search needs
+fault-of-requires c κs = tt
 
 with-requires : tie.Need-with-requires
-with-requires c κs = search needs
+with-requires c κs = tt
 
 with-requires-2 : tie.Need-with-requires-2
-with-requires-2 c κs = search needs
+with-requires-2 c κs = tt
 
 returns : tie.Need-returns
 returns c = placed-good _ _ _ _ _ _ (search fault-placed) _ _ (c .before .before .if1 .taken) (c .before .with .ensures) (c .with2 .ensures)

@@ -22,10 +22,10 @@ shared-slice-read-is-blank : tie.Need-shared-slice-read-is-blank Inv-loop μ-loo
 shared-slice-read-is-blank c = search needs
 
 is-blank-requires : tie.Need-is-blank-requires Inv-loop μ-loop
-is-blank-requires c κs = search needs
+is-blank-requires c κs = tt
 
 add-i : tie.Need-add-i Inv-loop μ-loop
-add-i c = search needs
+add-i c = omega arith
 
 loop-less : tie.Need-loop-less Inv-loop μ-loop
 loop-less c = search needs

@@ -23,10 +23,10 @@ shared-slice-read-is-blank : tie.Need-shared-slice-read-is-blank Inv-loop μ-loo
 shared-slice-read-is-blank c = search needs
 
 is-blank-requires : tie.Need-is-blank-requires Inv-loop μ-loop
-is-blank-requires c κs = search needs
+is-blank-requires c κs = tt
 
 first-requires : tie.Need-first-requires Inv-loop μ-loop
-first-requires c κs = search needs
+first-requires c κs = tt
 
 cast-count : tie.Need-cast-count Inv-loop μ-loop
 cast-count c = omega (arith, one-more (c .before .before .before .before .loop .inside || c .before .is-blank .result) _ (c .first .ensures))
@@ -35,7 +35,7 @@ add-count : tie.Need-add-count Inv-loop μ-loop
 add-count c = omega (arith, one-more (c .before .before .before .before .loop .inside || c .before .is-blank .result) _ (c .first .ensures))
 
 add-i : tie.Need-add-i Inv-loop μ-loop
-add-i c = search needs
+add-i c = omega arith
 
 loop-less : tie.Need-loop-less Inv-loop μ-loop
 loop-less c = search needs

@@ -22,13 +22,13 @@ shared-slice-read-is-blank : tie.Need-shared-slice-read-is-blank Inv-loop μ-loo
 shared-slice-read-is-blank c = search needs
 
 is-blank-requires : tie.Need-is-blank-requires Inv-loop μ-loop
-is-blank-requires c κs = search needs
+is-blank-requires c κs = tt
 
 returns : tie.Need-returns Inv-loop μ-loop
 returns c = (search needs, past-stop _ _ (c .before .before .before .loop-test .taken) (sym (c .before .is-blank .ensures) ∙ c .if1 .taken) ∙ c .before .before .before .before .loop .inv .1)
 
 add-i : tie.Need-add-i Inv-loop μ-loop
-add-i c = search needs
+add-i c = omega arith
 
 loop-less : tie.Need-loop-less Inv-loop μ-loop
 loop-less c = search needs

@@ -1,5 +1,4 @@
 -- `generator::Generator::fresh` meets its contract: every field at its beginning.
-use borrow.Author.Needs.{needs}
 use Rattle.generator.proofs.Generator.fresh.Statement.{statement}
 use Rattle.generator.proofs.Generator.fresh.Tie as tie
 
@@ -7,5 +6,5 @@ pub fresh-spec : {M : Type 1} → statement M
 fresh-spec =
     tie.close
     (tie.spec
-    (λ c κs. search needs)
+    (λ c κs. tt)
     (λ c. rw (c .none .ensures)))

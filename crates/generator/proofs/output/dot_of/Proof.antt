@@ -1,7 +1,6 @@
 -- `generator::output::dot_of` meets its contract: column and line fit 32 bits, because the generator is placed.
 use Prim.Native.Nat.{_/_, _%_, _^_, _≤_, _<_}
 use native.Mathlib.Omega.{arith}
-use borrow.Author.Needs.{needs}
 use Rattle.generator.proofs.Puts.{dot-by, column-in, line-in}
 use Rattle.generator.proofs.output.dot_of.Statement.{statement}
 use Rattle.generator.proofs.output.dot_of.Tie as tie
@@ -16,14 +15,14 @@ pub dot-of-spec : {M : Type 1} → statement M
 dot-of-spec =
     tie.close
     (tie.spec
-    (λ c. search needs)
+    (λ c. omega arith)
     (λ c. omega (arith, column (c .before)))
     (λ c. omega (arith, column (c .before)))
     (λ c. omega (arith, column (c .before)))
-    (λ c. search needs)
+    (λ c. omega arith)
     (λ c. omega (arith, line (c .before)))
-    (λ c. search needs)
-    (λ c κs. search needs)
+    (λ c. omega arith)
+    (λ c κs. tt)
     (λ c.
     let start = c .before .before .before in
     dot-by (start .args .r) (start .args .memory .now) (start .args .g) (start .args .t) (start .pre .1 .0) (start .args .k) _ (c .dot-at .ensures)))

@@ -1,5 +1,5 @@
 -- `generator::output::is_refused` meets its contract: of four places in a row, the last ends beyond the memory where any does.
-use borrow.Author.Needs.{needs}
+use native.Mathlib.Omega.{arith}
 use Rattle.generator.proofs.Puts.{refuse-by}
 use Rattle.generator.proofs.output.is_refused.Statement.{statement}
 use Rattle.generator.proofs.output.is_refused.Tie as tie
@@ -8,9 +8,9 @@ pub is-refused-spec : {M : Type 1} → statement M
 is-refused-spec =
     tie.close
     (tie.spec
-    (λ c. search needs)
-    (λ c κs. search needs)
-    (λ c κs. search needs)
+    (λ c. omega arith)
+    (λ c κs. tt)
+    (λ c κs. tt)
     (λ c.
     let start = c .before .before .before .before .before in
     refuse-by (start .args .r) (start .args .memory .now) (start .args .g) (start .args .t) (start .pre) _ _

@@ -1,6 +1,5 @@
 -- `generator::output::next_of` meets its contract: each field by its own call.
 use native.Mathlib.Omega.{arith}
-use borrow.Author.Needs.{needs}
 use Rattle.generator.proofs.Puts.{seen-in, next-by}
 use Rattle.generator.proofs.output.next_of.Statement.{statement}
 use Rattle.generator.proofs.output.next_of.Tie as tie
@@ -10,9 +9,9 @@ next-of-spec =
     tie.close
     (tie.spec
     (λ c. omega (arith, seen-in _ _ (c .before .pre .0)))
-    (λ c κs. search needs)
-    (λ c κs. search needs)
-    (λ c κs. search needs)
+    (λ c κs. tt)
+    (λ c κs. tt)
+    (λ c κs. tt)
     (λ c.
     let start = c .before .before .before .before in
     next-by (start .args .r) (start .args .g) (start .args .t) (start .pre .1) (start .args .sums) _ _ _

@@ -9,8 +9,8 @@ signals-of-spec =
     tie.close
     (tie.spec
     (λ c κs. search needs)
-    (λ c κs. search needs)
-    (λ c κs. search needs)
+    (λ c κs. tt)
+    (λ c κs. tt)
     (λ c.
     let on = c .before .before .before .before .before .before in
     let start = on .before .before .before in

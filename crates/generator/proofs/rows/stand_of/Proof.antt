@@ -1,6 +1,5 @@
 -- `generator::rows::stand_of` meets its contract: each part by its own call, joined by one law.
 use native.Mathlib.Omega.{arith}
-use borrow.Author.Needs.{needs}
 use Rattle.control.proofs.Laws.{increment-positive}
 use Rattle.generator.specs.Sound.{Inside}
 use Rattle.generator.proofs.Stands.{runs-inside, row-some, row-most, stands}
@@ -20,17 +19,17 @@ pub stand-of-spec : {M : Type 1} → statement M
 stand-of-spec =
     tie.close
     (tie.spec
-    (λ c κs. search needs)
+    (λ c κs. tt)
     (λ c. omega (arith, row-most _ (inside c .bounded)))
-    (λ c κs. search needs)
-    (λ c. search needs)
-    (λ c. search needs)
-    (λ c κs. search needs)
+    (λ c κs. tt)
+    (λ c. omega arith)
+    (λ c. omega arith)
+    (λ c κs. tt)
     (λ c. omega (arith, row-some _ (inside (c .before .before) .bounded)))
-    (λ c κs. search needs)
-    (λ c κs. search needs)
-    (λ c κs. search needs)
-    (λ c κs. search needs)
+    (λ c κs. tt)
+    (λ c κs. tt)
+    (λ c κs. tt)
+    (λ c κs. tt)
     (λ c κs.
     let q = c .before .before .before in
     let k = q .before .before .before .before in
@@ -39,10 +38,10 @@ stand-of-spec =
       row-some _ (inside k .bounded),
       row-most _ (inside k .bounded),
     ))
-    (λ c κs. search needs)
+    (λ c κs. tt)
     (λ c. omega (arith, inside (known (c .before)) .bounded .meminit .high))
     (λ c. omega (arith, inside (known (c .before .before)) .bounded .transferdelay .high))
-    (λ c κs. search needs)
+    (λ c κs. tt)
     (λ c.
     let a = c .before in
     let o = a .before .before .before in

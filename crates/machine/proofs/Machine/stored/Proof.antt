@@ -1,7 +1,6 @@
 -- `machine::Machine::stored` meets its contract: a start resets the generator, any other write leaves it.
 use mathlib.Core.Path.{_≡_}
 use mathlib.Core.Bool.{not, _&&_}
-use borrow.Author.Needs.{needs}
 use Rattle.machine.specs.Rules.{starts}
 use Rattle.machine.proofs.Cases.{stored-started, stored-kept}
 use Rattle.machine.proofs.Machine.stored.Statement.{statement}
@@ -14,11 +13,11 @@ pub stored-spec : {M : Type 1} → statement M
 stored-spec =
     tie.close
     (tie.spec
-    (λ c κs. search needs)
-    (λ c κs. search needs)
-    (λ c κs. search needs)
-    (λ c κs. search needs)
-    (λ c κs. search needs)
+    (λ c κs. tt)
+    (λ c κs. tt)
+    (λ c κs. tt)
+    (λ c κs. tt)
+    (λ c κs. tt)
     (λ c.
     let made = c .before .before in
     let a = made .before .before .before .before .before .args in

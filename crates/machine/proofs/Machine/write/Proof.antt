@@ -1,5 +1,4 @@
 -- `machine::Machine::write` meets its contract: accepted, the register stored; refused, the machine given.
-use borrow.Author.Needs.{needs}
 use Rattle.machine.proofs.Cases.{write-accepted, write-refused}
 use Rattle.machine.proofs.Machine.write.Statement.{statement}
 use Rattle.machine.proofs.Machine.write.Tie as tie
@@ -8,9 +7,9 @@ pub write-spec : {M : Type 1} → statement M
 write-spec =
     tie.close
     (tie.spec
-    (λ c κs. search needs)
-    (λ c κs. search needs)
-    (λ c κs. search needs)
+    (λ c κs. tt)
+    (λ c κs. tt)
+    (λ c κs. tt)
     (λ c.
     let asked = c .before .before in
     let place = asked .before .before in
