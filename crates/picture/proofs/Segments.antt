@@ -15,12 +15,13 @@ use Rattle.pixel.specs.declared.Dot.{Dot}
 use Rattle.pixel.specs.declared.Sums.{Sums}
 use Rattle.memory.proofs.Laws.{ends-beyond-later}
 use Rattle.generator.proofs.Bounds.{place-in}
-use Rattle.picture.specs.Span.{Painted, coveredDot, Small}
+use Rattle.span.specs.Span.{Painted, coveredDot, Covered, fitted}
 use Rattle.picture.specs.Plan.{Sized, addressIn, placeIn, dotIn, refusesIn, Cut, stretchOf}
 use Rattle.picture.specs.declared.rows.Plan.{Plan}
 use Rattle.picture.specs.declared.rows.Segment.{Segment}
-use Rattle.picture.specs.declared.span.Stretch.{Stretch}
-use Rattle.picture.proofs.Spans.{painted-on}
+use Rattle.span.specs.declared.Stretch.{Stretch}
+use Rattle.span.proofs.Spans.{painted-on}
+use Rattle.span.proofs.Fits.{fitted-whole}
 
 -- j on inside one turn of d
 div-on : (d v j : ℕ) → v % d + j < d → (v + j) / d ≡ v / d
@@ -140,19 +141,19 @@ module _ (p : Plan) (v : ℕ) (g : Segment) (c : Cut p v g) where
         let y : (4 * v + j) / 4 / p .display ≡ g .line = rw (t, div-on (p .display) v (j / 4) r) (sym (c .line)) in
         rw (zero-add, x, y, place-on j l)
 
-    pub painted-rows : (b : List ℕ) (t : Sums) (b′ : List ℕ) (t′ : Sums) (b″ : List ℕ) (t″ : Sums) (s : Stretch) → s ≡ stretchOf v g →
-        Painted b 0 t (run (dotIn p table store colours memory) 0 (4 * v)) b′ t′ → Painted b′ (s .at) t′ (run (coveredDot (p .control) (p .position) table store colours memory s) 0 (s .count)) b″ t″ →
+    pub painted-rows : (b : List ℕ) (t : Sums) (b′ : List ℕ) (t′ : Sums) (b″ : List ℕ) (t″ : Sums) (s s′ : Stretch) → s ≡ stretchOf v g → s′ ≡ s →
+        Painted b 0 t (run (dotIn p table store colours memory) 0 (4 * v)) b′ t′ → Covered (p .control) (p .position) table store colours memory s′ b′ t′ b″ t″ →
         Painted b 0 t (run (dotIn p table store colours memory) 0 (4 * (v + g .ticks))) b″ t″
-    painted-rows b t b′ t′ b″ t″ s es d e =
+    painted-rows b t b′ t′ b″ t″ s s′ es ef d e =
         let f = dotIn p table store colours memory in
         let n : 4 * (v + g .ticks) ≡ 4 * v + 4 * g .ticks = omega arith in
         let same : run f (0 + 4 * v) (4 * g .ticks) ≡ run dot 0 (4 * g .ticks) = rw zero-add (run-same f dot (4 * v) 0 (4 * g .ticks) dot-on) in
-        rw n (painted-on {k = 12 * v} f 0 (4 * v) (4 * g .ticks) d (omega arith) (rw same (rw es at e)))
+        rw n (painted-on {k = 12 * v} f 0 (4 * v) (4 * g .ticks) d (omega arith) (rw same (rw (ef ∙ es) at e)))
 
-  -- what it adds up to fits
-  pub segment-fits : (size : ℕ) → size ≡ 12 * p .visible → p .visible < 2 ^ 50 → (s : Stretch) → s ≡ stretchOf v g → Small s × (s .at + 3 * s .count ≤ size)
-  segment-fits size h w s e =
-      rw e (record { bytes = omega (arith, c .in-frame); places = omega (arith, c .from-most, c .column-most); columns = omega (arith, c .column-most) }, omega (arith, c .in-frame))
+  -- it fits
+  pub segment-fits : (size : ℕ) → size ≡ 12 * p .visible → (s : Stretch) → s ≡ stretchOf v g → fitted s size ≡ s
+  segment-fits size h s e =
+      rw e (fitted-whole (stretchOf v g) size (omega (arith, c .in-frame)) (omega (arith, c .column-most)) (omega (arith, c .from-most, c .column-most)))
 
 read-all : (a b c : Bool) → (a && b) ≡ true → c ≡ (a && (b && c))
 read-all true true c e = refl

@@ -15,10 +15,10 @@ use Rattle.pixel.specs.declared.Dot.{Dot}
 use Rattle.pixel.specs.declared.Sums.{Sums}
 use Rattle.generator.specs.Rows.{screen}
 use Rattle.generator.specs.declared.Generator.{Generator}
-use Rattle.picture.specs.Span.{dotThrough}
+use Rattle.span.specs.Span.{dotThrough}
 use Rattle.picture.specs.declared.rows.Plan.{Plan}
 use Rattle.picture.specs.declared.rows.Segment.{Segment}
-use Rattle.picture.specs.declared.span.Stretch.{Stretch}
+use Rattle.span.specs.declared.Stretch.{Stretch}
 
 -- the part of the one condition that a picture uses
 pub record Ready (r : Registers) : Type 0 where

@@ -1,6 +1,5 @@
 // A whole picture (01, "Refusal numbers", 20 to 22; "Rows and pixels"): a frame drawn at once, as its ticks draw it.
 mod rows;
-mod span;
 mod whole;
 
 pub use whole::Pictured;
@@ -10,10 +9,11 @@ ghost use Prim.Native.Nat.{_*_};
 ghost use lib.ListN.{length};
 ghost use Rattle.base.specs.Count.{run};
 ghost use Rattle.screen.specs.Totals.{frameVisible};
+ghost use Rattle.span.specs.Span.{bytesOf};
 ghost use Rattle.generator.specs.Rows.{screen};
 ghost use Rattle.generator.specs.Sound.{Sound};
 ghost use Rattle.frame.specs.Frame.{pixels, dotFor, sumsTo};
-ghost use Rattle.picture.specs.Picture.{bytesOf, refuses22, pictureRefusal, drawnOf, bufferOf};
+ghost use Rattle.picture.specs.Picture.{refuses22, pictureRefusal, drawnOf, bufferOf};
 ghost use Rattle.picture.specs.Plan.{Ready, planOf};
 use generator::Generator;
 use pixel::Sums;

@@ -6,13 +6,12 @@ ghost use Rattle.base.specs.Count.{run, some};
 ghost use Rattle.control.specs.Control.{pixelBits};
 ghost use Rattle.memory.specs.Memory.{endsBeyond};
 ghost use Rattle.pixel.specs.Sums.{none};
-ghost use Rattle.picture.specs.Span.{Painted};
+ghost use Rattle.span.specs.Span.{Painted};
 ghost use Rattle.picture.specs.Plan.{Ready, planOf, Sized, addressIn, placeIn, dotIn, refusesIn, endIn, Cut, stretchOf};
-use crate::span;
-use crate::span::Stretch;
 use generator::Generator;
 use pixel::Sums;
 use registers::Registers;
+use span::Stretch;
 use units::HalfLines;
 use units::ScreenUnits;
 

@@ -1,13 +1,13 @@
--- `picture::span::draw_plain` meets its contract. The invariant: i pixels are painted, and k is where the next is stored. Assumes nothing.
+-- `span::draw_plain` meets its contract. The invariant: i pixels are painted, and k is where the next is stored. Assumes nothing.
 use Prim.Native.Nat.{_+_, _*_, _-_, _≤_}
 use mathlib.Core.Path.{_≡_}
 use native.Mathlib.Omega.{arith}
 use borrow.Author.Needs.{needs}
 use Rattle.base.specs.Count.{run}
-use Rattle.picture.specs.Span.{Painted, plainDot}
-use Rattle.picture.proofs.Spans.{painted-none, painted-more, painted-length}
-use Rattle.picture.proofs.span.draw_plain.Statement.{statement}
-use Rattle.picture.proofs.span.draw_plain.Tie as tie
+use Rattle.span.specs.Span.{Painted, plainDot}
+use Rattle.span.proofs.Spans.{painted-none, painted-more, painted-length}
+use Rattle.span.proofs.draw_plain.Statement.{statement}
+use Rattle.span.proofs.draw_plain.Tie as tie
 
 abbrev Inv-loop : tie.InvT-loop
 Inv-loop buffer₀ memory control table from count t₀ i₀ k₀ buffer t i k =

@@ -1,4 +1,4 @@
--- `picture::span::draw_under` meets its contract. The invariant: i pixels are painted, and k is where the next is stored. Assumes nothing.
+-- `span::draw_under` meets its contract. The invariant: i pixels are painted, and k is where the next is stored. Assumes nothing.
 use Prim.Native.Nat.{_+_, _*_, _-_, _≤_}
 use mathlib.Core.Path.{_≡_}
 use native.Mathlib.Nat.{zero-add}
@@ -6,10 +6,10 @@ use native.Mathlib.Omega.{arith}
 use borrow.Author.Needs.{needs}
 use Rattle.base.specs.Count.{run}
 use Rattle.pixel.specs.declared.Dot.{Dot}
-use Rattle.picture.specs.Span.{Painted, dotThrough, coveredDot}
-use Rattle.picture.proofs.Spans.{painted-none, painted-more, painted-length}
-use Rattle.picture.proofs.span.draw_under.Statement.{statement}
-use Rattle.picture.proofs.span.draw_under.Tie as tie
+use Rattle.span.specs.Span.{Painted, dotThrough, coveredDot}
+use Rattle.span.proofs.Spans.{painted-none, painted-more, painted-length}
+use Rattle.span.proofs.draw_under.Statement.{statement}
+use Rattle.span.proofs.draw_under.Tie as tie
 
 abbrev Inv-loop : tie.InvT-loop
 Inv-loop buffer₀ memory control position table store colours from x y count on t₀ i₀ k₀ buffer t i k =

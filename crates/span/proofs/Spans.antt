@@ -13,10 +13,9 @@ use Rattle.pixel.specs.Sums.{summed}
 use Rattle.pixel.specs.declared.Dot.{Dot}
 use Rattle.pixel.specs.declared.Sums.{Sums}
 use Rattle.pixel.proofs.Laws.{summed-join}
-use Rattle.picture.specs.Picture.{bytesOf}
-use Rattle.picture.specs.Span.{Painted, plainDot, codeOver, dotThrough, coveredDot, Small, partOf, Clipped}
-use Rattle.picture.specs.declared.span.Columns.{Columns}
-use Rattle.picture.specs.declared.span.Stretch.{Stretch}
+use Rattle.span.specs.Span.{bytesOf, Painted, plainDot, codeOver, dotThrough, coveredDot, Small, partOf, Clipped}
+use Rattle.span.specs.declared.Columns.{Columns}
+use Rattle.span.specs.declared.Stretch.{Stretch}
 
 -- stores in a row, and then further ones right behind, are the stores of both
 sets-append : (l : List ℕ) (i : ℕ) (xs ys : List ℕ) → sets l i (xs ++ ys) ≡ sets (sets l i xs) (i + length xs) ys

@@ -1,12 +1,12 @@
--- `picture::span::put` meets its contract: its three stores are those of `sets`. Assumes nothing.
+-- `span::put` meets its contract: its three stores are those of `sets`. Assumes nothing.
 use Prim.Native.Nat.{suc, _+_}
 use mathlib.Core.Path.{_≡_}
 use native.Mathlib.Numerals.{add-one}
 use native.Mathlib.Omega.{arith}
 use borrow.Author.Needs.{needs}
 use lib.ListN.{length-set}
-use Rattle.picture.proofs.span.put.Statement.{statement}
-use Rattle.picture.proofs.span.put.Tie as tie
+use Rattle.span.proofs.put.Statement.{statement}
+use Rattle.span.proofs.put.Tie as tie
 
 returns : tie.Need-returns
 returns c =

@@ -6,7 +6,7 @@ ghost use lib.ListN.{length, replicate};
 ghost use lib.Seq.{sets};
 ghost use Rattle.base.specs.Count.{run};
 ghost use Rattle.colour.specs.Colour.{red, green, blue};
-ghost use Rattle.picture.specs.Span.{Painted, plainColour, plainDot, coveredDot, biased, Small, partOf, Clipped};
+ghost use Rattle.span.specs.Span.{Painted, plainColour, plainDot, Covered, fitted, Small, partOf, biased, Clipped};
 use pixel::Dot;
 use pixel::Sums;
 
@@ -20,9 +20,9 @@ pub struct Stretch {
 }
 
 // Of a stretch, the pixels from `left` up to, not including, `right` may lie under the cursor.
-pub struct Columns {
-    pub left: u64,
-    pub right: u64,
+struct Columns {
+    left: u64,
+    right: u64,
 }
 
 // Red, green and blue of a colour stored from k on.
@@ -99,9 +99,8 @@ fn draw_under(
     requires { ⌜ Small s ⌝ }
     requires { ⌜ s .at + 3 * s .count ≤ length (now buffer) ⌝ }
     ensures painted { λ t. ⌜
-        Painted (now (buffer .entry)) (s .at) sums
-        (run (coveredDot control position (now (table .entry)) (now (store .entry)) (now (colours .entry)) (now (memory .entry)) s) 0 (s .count))
-        (now (buffer .exit)) t ⌝ }
+        Covered control position (now (table .entry)) (now (store .entry)) (now (colours .entry)) (now (memory .entry))
+        s (now (buffer .entry)) sums (now (buffer .exit)) t ⌝ }
 {
     let from = s.from;
     let x = s.x;
@@ -176,11 +175,33 @@ fn part(s: Stretch, a: u64, b: u64) -> Stretch
     }
 }
 
-// A stretch: what is left of the cursor, what is under it and what is right of it.
+// The stretch itself where it fits, and else an empty one.
+fn fitting(s: Stretch, size: usize) -> Stretch
+    ensures stretch { λ t. ⌜ t ≡ fitted s size ⌝ }
+    ensures small { λ t. ⌜ Small t ⌝ }
+    ensures room { λ t. ⌜ t .at + 3 * t .count ≤ size ⌝ }
+{
+    let room = edge(size as u64, s.at as u64, size as u64) / 3;
+    let bytes = (s.at <= size) & (s.count <= room);
+    let columns = s.count <= 0xFFFFFFFF - s.x as u64;
+    let places = s.count <= 0xFFFFFFFFFFFFFFFF - s.from;
+    if bytes & columns & places {
+        return s;
+    }
+    Stretch {
+        at: 0,
+        from: 0,
+        x: 0,
+        y: 0,
+        count: 0,
+    }
+}
+
+// A stretch: what is left of the cursor, what is under it and what is right of it. One that does not fit leaves buffer and sums alone.
 pub fn draw_stretch(
     buffer: &mut [u8],
     memory: &[u8],
-    s: Stretch,
+    given: Stretch,
     control: u32,
     position: u32,
     table: &[u32; 256],
@@ -188,13 +209,11 @@ pub fn draw_stretch(
     colours: &[u32; 3],
     sums: Sums,
 ) -> Sums
-    requires { ⌜ Small s ⌝ }
-    requires { ⌜ s .at + 3 * s .count ≤ length (now buffer) ⌝ }
     ensures painted { λ t. ⌜
-        Painted (now (buffer .entry)) (s .at) sums
-        (run (coveredDot control position (now (table .entry)) (now (store .entry)) (now (colours .entry)) (now (memory .entry)) s) 0 (s .count))
-        (now (buffer .exit)) t ⌝ }
+        Covered control position (now (table .entry)) (now (store .entry)) (now (colours .entry)) (now (memory .entry))
+        (fitted given (length (now (buffer .entry)))) (now (buffer .entry)) sums (now (buffer .exit)) t ⌝ }
 {
+    let s = fitting(given, buffer.len());
     let c = clip(control, position, s);
     let left = part(s, 0, c.left);
     let under = part(s, c.left, c.right);

@@ -1,9 +1,9 @@
--- `picture::span::paint` meets its contract: one pixel is stored and added. Assumes nothing.
+-- `span::paint` meets its contract: one pixel is stored and added. Assumes nothing.
 use borrow.Author.Needs.{needs}
 use Rattle.pixel.specs.Sums.{summed}
-use Rattle.picture.specs.Picture.{bytesOf}
-use Rattle.picture.proofs.span.paint.Statement.{statement}
-use Rattle.picture.proofs.span.paint.Tie as tie
+use Rattle.span.specs.Span.{bytesOf}
+use Rattle.span.proofs.paint.Statement.{statement}
+use Rattle.span.proofs.paint.Tie as tie
 
 pub paint-spec : {M : Type 1} → statement M
 unfolding bytesOf summed

@@ -1,8 +1,8 @@
--- `picture::span::clip` meets its contract: outside the columns from `left` to `right` the cursor has no code. Assumes nothing.
+-- `span::clip` meets its contract: outside the columns from `left` to `right` the cursor has no code. Assumes nothing.
 use borrow.Author.Needs.{needs}
-use Rattle.picture.proofs.Clips.{clip-columns, clip-nothing}
-use Rattle.picture.proofs.span.clip.Statement.{statement}
-use Rattle.picture.proofs.span.clip.Tie as tie
+use Rattle.span.proofs.Clips.{clip-columns, clip-nothing}
+use Rattle.span.proofs.clip.Statement.{statement}
+use Rattle.span.proofs.clip.Tie as tie
 
 pub clip-spec : {M : Type 1} → statement M
 clip-spec =
