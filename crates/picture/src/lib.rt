@@ -13,7 +13,7 @@ ghost use Rattle.span.specs.Span.{bytesOf};
 ghost use Rattle.generator.specs.Rows.{screen};
 ghost use Rattle.generator.specs.Sound.{Sound};
 ghost use Rattle.frame.specs.Frame.{pixels, dotFor, sumsTo};
-ghost use Rattle.picture.specs.Picture.{refuses22, pictureRefusal, drawnOf, bufferOf};
+ghost use Rattle.picture.specs.Picture.{pictureRefusal, drawnOf, bufferOf};
 ghost use Rattle.picture.specs.Plan.{Ready, planOf};
 use generator::Generator;
 use pixel::Sums;
@@ -25,21 +25,13 @@ pub struct Drawn {
     pub next: Generator,
 }
 
-// Refusal 22: stopped, or not before the first tick of a frame.
-fn refuses_22(r: Registers, g: Generator) -> bool
-    ensures refusal { λ b. ⌜ b ≡ refuses22 r g ⌝ }
-{
-    let on = control::is_running(r.control);
-    !on | !((g.half.0 == 0) & (g.at.0 == 0))
-}
-
-// The refusal of a picture into `size` bytes, or 0: settled before a byte is written.
+// The refusal of a picture into `size` bytes, or 0: settled before a byte is written. 22: stopped, or not before the first tick of a frame.
 fn refusal_of(r: Registers, g: Generator, memory: &[u8], size: u64) -> u32
     requires { ⌜ Sound r g ⌝ }
     ensures refusal { λ n. ⌜ n ≡ pictureRefusal r (now (memory .entry)) g size ⌝ }
 {
-    let early = refuses_22(r, g);
-    if early {
+    let on = control::is_running(r.control);
+    if !on | !((g.half.0 == 0) & (g.at.0 == 0)) {
         return 22;
     }
     let p = rows::plan_of(r);
