@@ -6,7 +6,7 @@ pub use whole::Pictured;
 pub use whole::draw_machine;
 ghost use mathlib.Core.Path.{_≡_};
 ghost use Prim.Native.Nat.{_*_};
-ghost use lib.ListN.{length};
+ghost use lib.ListN.{length, replicate};
 ghost use Rattle.base.specs.Count.{run};
 ghost use Rattle.screen.specs.Totals.{frameVisible};
 ghost use Rattle.span.specs.Span.{bytesOf};
@@ -40,6 +40,17 @@ fn refusal_of(r: Registers, g: Generator, memory: &[u8], size: u64) -> u32
     base::first(wrong, 21, base::first(far, 20, 0))
 }
 
+// Every byte 0.
+fn blacken(buffer: &mut [u8])
+    ensures bytes { λ _. ⌜ now (buffer .exit) ≡ replicate (length (now (buffer .entry))) 0 ⌝ }
+{
+    let mut k: usize = 0;
+    while k < buffer.len() {
+        buffer[k] = 0;
+        k += 1;
+    }
+}
+
 // The picture of a frame that nothing refuses, and its sums. Forced blank: black, nothing read, nothing added.
 fn draw_frame(r: Registers, p: rows::Plan, memory: &[u8], buffer: &mut [u8]) -> Sums
     requires { ⌜ Ready r ⌝ }
@@ -53,7 +64,7 @@ fn draw_frame(r: Registers, p: rows::Plan, memory: &[u8], buffer: &mut [u8]) -> 
     let colours = r.colours;
     let blank = control::is_forced_blank(r.control);
     if blank {
-        span::blacken(buffer);
+        blacken(buffer);
         return Sums::none();
     }
     let table = colour::masked_palette(&palette, r.mask);

@@ -2,7 +2,7 @@
 ghost use mathlib.Core.Path.{_≡_};
 ghost use mathlib.Core.List.{[], _∷_};
 ghost use Prim.Native.Nat.{_+_, _-_, _*_, _%_, _≤_, _<_, min};
-ghost use lib.ListN.{length, replicate};
+ghost use lib.ListN.{length};
 ghost use lib.Seq.{sets};
 ghost use Rattle.base.specs.Count.{run};
 ghost use Rattle.colour.specs.Colour.{red, green, blue};
@@ -231,15 +231,4 @@ pub fn draw_stretch(
         a,
     );
     draw_plain(buffer, memory, right, control, table, b)
-}
-
-// Every byte 0.
-pub fn blacken(buffer: &mut [u8])
-    ensures bytes { λ _. ⌜ now (buffer .exit) ≡ replicate (length (now (buffer .entry))) 0 ⌝ }
-{
-    let mut k: usize = 0;
-    while k < buffer.len() {
-        buffer[k] = 0;
-        k += 1;
-    }
 }
