@@ -3,10 +3,8 @@ ghost use mathlib.Core.Path.{_≡_};
 ghost use mathlib.Core.List.{[], _∷_};
 ghost use Prim.Native.Nat.{_+_, _-_, _*_, _%_, _≤_, _<_, min};
 ghost use lib.ListN.{length};
-ghost use lib.Seq.{sets};
 ghost use Rattle.base.specs.Count.{run};
-ghost use Rattle.colour.specs.Colour.{red, green, blue};
-ghost use Rattle.span.specs.Span.{Painted, plainColour, plainDot, Covered, fitted, Small, partOf, biased, Clipped};
+ghost use Rattle.span.specs.Span.{Painted, plainColour, plainDot, Covered, fitted, Small, partOf, Clipped};
 use pixel::Dot;
 use pixel::Sums;
 
@@ -25,10 +23,10 @@ struct Columns {
     right: u64,
 }
 
-// Red, green and blue of a colour stored from k on.
-fn put(buffer: &mut [u8], k: usize, colour: u32)
+// One pixel put from k on: red, green and blue stored, its colour added.
+fn put(buffer: &mut [u8], k: usize, colour: u32, sums: Sums) -> Sums
     requires { ⌜ k + 3 ≤ length (now buffer) ⌝ }
-    ensures bytes { λ _. ⌜ now (buffer .exit) ≡ sets (now (buffer .entry)) k (red colour ∷ green colour ∷ blue colour ∷ []) ⌝ }
+    ensures painted { λ s. ⌜ Painted (now (buffer .entry)) k sums (record { colour = colour } ∷ []) (now (buffer .exit)) s ⌝ }
 {
     let red = colour::red_byte(colour);
     let green = colour::green_byte(colour);
@@ -36,14 +34,6 @@ fn put(buffer: &mut [u8], k: usize, colour: u32)
     buffer[k] = red;
     buffer[k + 1] = green;
     buffer[k + 2] = blue;
-}
-
-// One pixel drawn from k on.
-fn paint(buffer: &mut [u8], k: usize, colour: u32, sums: Sums) -> Sums
-    requires { ⌜ k + 3 ≤ length (now buffer) ⌝ }
-    ensures painted { λ s. ⌜ Painted (now (buffer .entry)) k sums (record { colour = colour } ∷ []) (now (buffer .exit)) s ⌝ }
-{
-    put(buffer, k, colour);
     sums.added(Dot { colour })
 }
 
@@ -77,7 +67,7 @@ fn draw_plain(
     let mut i: u64 = 0;
     let mut k = s.at;
     while i < count {
-        t = paint(buffer, k, look(memory, from + i, control, table), t);
+        t = put(buffer, k, look(memory, from + i, control, table), t);
         i += 1;
         k += 3;
     }
@@ -113,19 +103,11 @@ fn draw_under(
     while i < count {
         let code = base::first(on, cursor::cursor_code(store, position, x + i as u32, y), 0);
         let colour = cursor::cover(colours, code, look(memory, from + i, control, table));
-        t = paint(buffer, k, colour, t);
+        t = put(buffer, k, colour, t);
         i += 1;
         k += 3;
     }
     t
-}
-
-// A 12-bit field in two's complement, counted from -2,048.
-fn biased(field: u32) -> u64
-    requires { ⌜ field < 4096 ⌝ }
-    ensures number { λ n. ⌜ n ≡ biased field ⌝ }
-{
-    ((field + 2048) % 4096) as u64
 }
 
 // a less b, held between 0 and `most`.
@@ -141,14 +123,14 @@ fn edge(a: u64, b: u64, most: u64) -> u64
     most
 }
 
-// The part of a stretch that may lie under the cursor.
+// The part of a stretch that may lie under the cursor. Columns and lines are counted from -2,048, where a signed position begins.
 fn clip(control: u32, position: u32, s: Stretch) -> Columns
     ensures clipped { λ c. ⌜ Clipped control position s c ⌝ }
 {
     let count = s.count;
     let on = control::is_cursor_on(control);
-    let first = biased(position / 0x1000 % 0x1000);
-    let top = biased(position % 0x1000);
+    let first = ((position / 0x1000 % 0x1000 + 2048) % 0x1000) as u64;
+    let top = ((position % 0x1000 + 2048) % 0x1000) as u64;
     let column = s.x as u64 + 2048;
     let line = s.y as u64 + 2048;
     if on & (top <= line) & (line < top + 64) {
@@ -181,10 +163,12 @@ fn fitting(s: Stretch, size: usize) -> Stretch
     ensures small { λ t. ⌜ Small t ⌝ }
     ensures room { λ t. ⌜ t .at + 3 * t .count ≤ size ⌝ }
 {
-    let room = edge(size as u64, s.at as u64, size as u64) / 3;
-    let bytes = (s.at <= size) & (s.count <= room);
-    let columns = s.count <= 0xFFFFFFFF - s.x as u64;
-    let places = s.count <= 0xFFFFFFFFFFFFFFFF - s.from;
+    let at = s.at;
+    let count = s.count;
+    let room = edge(size as u64, at as u64, size as u64) / 3;
+    let bytes = (at <= size) & (count <= room);
+    let columns = count <= 0xFFFFFFFF - s.x as u64;
+    let places = count <= 0xFFFFFFFFFFFFFFFF - s.from;
     if bytes & columns & places {
         return s;
     }

@@ -1,4 +1,5 @@
 -- `span::clip` meets its contract: outside the columns from `left` to `right` the cursor has no code. Assumes nothing.
+use mathlib.Core.Path.{refl}
 use borrow.Author.Needs.{needs}
 use Rattle.span.proofs.Clips.{clip-columns, clip-nothing}
 use Rattle.span.proofs.clip.Statement.{statement}
@@ -9,27 +10,23 @@ clip-spec =
     tie.close
     (tie.spec
     (λ c κs. search needs)
+    (λ c. search needs)
+    (λ c. search needs)
+    (λ c. search needs)
+    (λ c. search needs)
+    (λ c. search needs)
+    (λ c. search needs)
+    (λ c. search needs)
+    (λ c. search needs)
+    (λ c. search needs)
     (λ c κs. search needs)
-    (λ c κs. search needs)
-    (λ c. search needs)
-    (λ c. search needs)
-    (λ c. search needs)
-    (λ c. search needs)
     (λ c. search needs)
     (λ c κs. search needs)
-    (λ c. search needs)
-    (λ c κs. search needs)
-    (λ c.
-    let on = c .before .before .before .before .before .before .before in
-    let a = on .before .args in
-    clip-columns (a .control) (a .position) (a .s) _ (on .is-cursor-on .ensures) _ _
-    (c .before .before .before .before .before .before .biased .ensures)
-    (c .before .before .before .before .before .biased2 .ensures)
-    _ _ (c .before .edge .ensures) (c .edge2 .ensures))
     (λ c.
     let on = c .before .before .before .before .before in
     let a = on .before .args in
-    clip-nothing (a .control) (a .position) (a .s) _ (on .is-cursor-on .ensures) _ _
-    (c .before .before .before .before .biased .ensures)
-    (c .before .before .before .biased2 .ensures)
-    (c .if1 .left)))
+    clip-columns (a .control) (a .position) (a .s) _ (on .is-cursor-on .ensures) _ _ refl refl _ _ (c .before .edge .ensures) (c .edge2 .ensures))
+    (λ c.
+    let on = c .before .before .before in
+    let a = on .before .args in
+    clip-nothing (a .control) (a .position) (a .s) _ (on .is-cursor-on .ensures) _ _ refl refl (c .if1 .left)))

@@ -28,7 +28,7 @@ loop-again c =
       omega arith,
       omega arith,
       painted-more (plainDot (a .control) (a .table .now) (a .memory .now)) (a .s .from) (now .i) (now .inv .2) (now .inv .1)
-          (rw (look .look .ensures) at (c .before .before .paint .ensures)),
+          (rw (look .look .ensures) at (c .before .before .put .ensures)),
     )
 
 returns : tie.Need-returns Inv-loop μ-loop

@@ -35,7 +35,7 @@ loop-again c =
     rw (zero-add, cover .cover .ensures, cover .before .look .ensures, first .first .ensures, first .before .cursor-code .ensures .0, on .is-cursor-on .ensures) in (
       omega arith,
       omega arith,
-      painted-more dot 0 (now .i) (now .inv .2) (now .inv .1) (rw e at (c .before .before .paint .ensures)),
+      painted-more dot 0 (now .i) (now .inv .2) (now .inv .1) (rw e at (c .before .before .put .ensures)),
     )
 
 returns : tie.Need-returns Inv-loop μ-loop

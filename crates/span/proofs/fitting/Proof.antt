@@ -7,13 +7,13 @@ use Rattle.span.proofs.fitting.Tie as tie
 
 returns : tie.Need-returns
 returns c =
-    let edge = c .before .before .before .before .before .before .before in
+    let edge = c .before .before .before in
     let a = edge .before .args in
     fitting-all (a .s) (a .size) (omega arith) (omega arith) (omega arith) _ (edge .edge .ensures) (c .if1 .taken)
 
 returns-2 : tie.Need-returns-2
 returns-2 c =
-    let edge = c .before .before .before .before .before .before .before in
+    let edge = c .before .before .before in
     let a = edge .before .args in
     fitting-none (a .s) (a .size) (omega arith) (omega arith) (omega arith) _ (edge .edge .ensures) (c .if1 .left)
 
