@@ -1,7 +1,7 @@
 -- `span::draw_stretch` meets its contract: what is left of the cursor, under it and right of it, joined. Assumes nothing.
 use native.Mathlib.Omega.{arith}
 use borrow.Author.Needs.{needs}
-use Rattle.span.proofs.Spans.{painted-length, part-fits, painted-stretch}
+use Rattle.span.proofs.Spans.{part-fits, painted-stretch}
 use Rattle.span.proofs.draw_stretch.Statement.{statement}
 use Rattle.span.proofs.draw_stretch.Tie as tie
 
@@ -18,7 +18,7 @@ draw-under-requires c κs =
     let part = left .before .before .before in
     let clip = part .before .before in
     let fit = clip .before in
-    part-fits (fit .fitting .result) (fit .fitting .ensures .1 .0) _ (omega (arith, fit .fitting .ensures .1 .1, painted-length (left .draw-plain .ensures))) _ _ (clip .clip .ensures .order) (clip .clip .ensures .end) _ (part .part2 .ensures)
+    part-fits (fit .fitting .result) (fit .fitting .ensures .1 .0) _ (omega (arith, fit .fitting .ensures .1 .1)) _ _ (clip .clip .ensures .order) (clip .clip .ensures .end) _ (part .part2 .ensures)
 
 draw-plain-requires-2 : tie.Need-draw-plain-requires-2
 draw-plain-requires-2 c κs =
@@ -27,7 +27,7 @@ draw-plain-requires-2 c κs =
     let part = left .before .before in
     let clip = part .before .before .before in
     let fit = clip .before in
-    part-fits (fit .fitting .result) (fit .fitting .ensures .1 .0) _ (omega (arith, fit .fitting .ensures .1 .1, painted-length (under .draw-under .ensures), painted-length (left .draw-plain .ensures)))
+    part-fits (fit .fitting .result) (fit .fitting .ensures .1 .0) _ (omega (arith, fit .fitting .ensures .1 .1))
     _ _ (clip .clip .ensures .end) (omega arith) _ (part .part3 .ensures)
 
 returns : tie.Need-returns
