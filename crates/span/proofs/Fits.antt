@@ -26,9 +26,6 @@ below n count most h = go (leb count (most - 1 - n)) refl
 abbrev empty : Stretch
 empty = record { at = 0; from = 0; x = 0; y = 0; count = 0 }
 
-abbrev Room : Stretch → ℕ → Type 0
-Room s size = Small s × (s .at + 3 * s .count ≤ size)
-
 module _ (s : Stretch) (size : ℕ) where
   all : fits s size ≡ true → s ≡ fitted s size
   unfolding fitted
@@ -42,35 +39,32 @@ module _ (s : Stretch) (size : ℕ) where
   pub fitted-whole : s .at + 3 * s .count ≤ size → s .x + s .count < 2 ^ 32 → s .from + s .count < 2 ^ 64 → fitted s size ≡ s
   fitted-whole b c p = sym (all (simp (le-leb _ _ b, lt-ltb _ _ c, lt-ltb _ _ p)))
 
-  fitted-room : size < 2 ^ 64 → Room (fitted s size) size
+  fitted-small : Small (fitted s size) size
   unfolding fitted
-  fitted-room w = go (leb (s .at + 3 * s .count) size) refl (ltb (s .x + s .count) (2 ^ 32)) refl (ltb (s .from + s .count) (2 ^ 64)) refl
+  fitted-small = go (leb (s .at + 3 * s .count) size) refl (ltb (s .x + s .count) (2 ^ 32)) refl (ltb (s .from + s .count) (2 ^ 64)) refl
     where
-      nothing : Room empty size
-      nothing = (record { bytes = omega arith; columns = omega arith; places = omega arith }, omega arith)
+      nothing : Small empty size
+      nothing = record { bytes = omega arith; columns = omega arith; places = omega arith }
 
-      go : (a : Bool) → leb (s .at + 3 * s .count) size ≡ a → (b : Bool) → ltb (s .x + s .count) (2 ^ 32) ≡ b → (c : Bool) → ltb (s .from + s .count) (2 ^ 64) ≡ c → Room (cond ((a && b) && c) s empty) size
-      go true ea true eb true ec =
-          let h : s .at + 3 * s .count ≤ size = leb-true _ _ ea in
-          let bytes : s .at + 3 * s .count < 2 ^ 64 = omega arith in
-          (record { bytes = bytes; columns = ltb-true _ _ eb; places = ltb-true _ _ ec }, h)
+      go : (a : Bool) → leb (s .at + 3 * s .count) size ≡ a → (b : Bool) → ltb (s .x + s .count) (2 ^ 32) ≡ b → (c : Bool) → ltb (s .from + s .count) (2 ^ 64) ≡ c → Small (cond ((a && b) && c) s empty) size
+      go true ea true eb true ec = record { bytes = leb-true _ _ ea; columns = ltb-true _ _ eb; places = ltb-true _ _ ec }
       go true ea true eb false ec = nothing
       go true ea false eb c ec = nothing
       go false ea b eb c ec = nothing
 
   -- the code's test, and what it leaves
-  module _ (w : size < 2 ^ 64) (x : s .x < 2 ^ 32) (from : s .from < 2 ^ 64) (room : ℕ) (e : room ≡ min (size - s .at) size) where
+  module _ (x : s .x < 2 ^ 32) (from : s .from < 2 ^ 64) (room : ℕ) (e : room ≡ min (size - s .at) size) where
     abbrev test : Bool
     test = ((leb (s .at) size && leb (s .count) (room / 3)) && leb (s .count) (0xFFFFFFFF - s .x)) && leb (s .count) (0xFFFFFFFFFFFFFFFF - s .from)
 
     same : fits s size ≡ test
     same = sym (rw (room-for (s .at) (s .count) size room e, below (s .x) (s .count) (2 ^ 32) x, below (s .from) (s .count) (2 ^ 64) from))
 
-    whole : (t : Stretch) → t ≡ fitted s size → (t ≡ fitted s size) × Room t size
-    whole t f = (f, rw f (fitted-room w))
+    whole : (t : Stretch) → t ≡ fitted s size → (t ≡ fitted s size) × Small t size
+    whole t f = (f, rw f fitted-small)
 
-    pub fitting-all : test ≡ true → (s ≡ fitted s size) × Room s size
+    pub fitting-all : test ≡ true → (s ≡ fitted s size) × Small s size
     fitting-all t = whole s (all (same ∙ t))
 
-    pub fitting-none : test ≡ false → (empty ≡ fitted s size) × Room empty size
+    pub fitting-none : test ≡ false → (empty ≡ fitted s size) × Small empty size
     fitting-none t = whole empty (none (same ∙ t))

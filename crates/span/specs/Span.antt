@@ -31,8 +31,9 @@ pub record Painted (before : List ℕ) (at : ℕ) (s : Sums) (dots : List Dot) (
 abbrev pub plainColour : ℕ → List ℕ → List ℕ → ℕ → ℕ
 plainColour control table m place = getD table (pixelShown control m place) 0
 
-abbrev pub plainDot : ℕ → List ℕ → List ℕ → ℕ → Dot
-plainDot control table m place = record { colour = plainColour control table m place }
+-- pixel j of a stretch whose first stands at a place
+abbrev pub plainDot : ℕ → List ℕ → List ℕ → ℕ → ℕ → Dot
+plainDot control table m from j = record { colour = plainColour control table m (from + j) }
 
 -- the cursor's code at pixel x of line y
 abbrev pub codeOver : ℕ → ℕ → List ℕ → ℕ → ℕ → ℕ
@@ -43,7 +44,7 @@ unfoldable pub dotThrough : ℕ → ℕ → List ℕ → List ℕ → List ℕ �
 dotThrough control position table store colours m place x y =
     record { colour = over colours (codeOver control position store x y) (plainColour control table m place) }
 
--- pixel j of a stretch
+-- pixel j of a stretch, with the cursor
 unfoldable pub coveredDot : ℕ → ℕ → List ℕ → List ℕ → List ℕ → List ℕ → Stretch → ℕ → Dot
 coveredDot control position table store colours m s j =
     dotThrough control position table store colours m (s .from + j) (s .x + j) (s .y)
@@ -62,14 +63,16 @@ unfoldable pub fitted : Stretch → ℕ → Stretch
 fitted s size = cond (fits s size) s (record { at = 0; from = 0; x = 0; y = 0; count = 0 })
 
 -- what a stretch that fits adds up to
-pub record Small (s : Stretch) : Type 0 where
-  pub bytes : s .at + 3 * s .count < 2 ^ 64
+pub record Small (s : Stretch) (size : ℕ) : Type 0 where
+  pub bytes : s .at + 3 * s .count ≤ size
   pub columns : s .x + s .count < 2 ^ 32
   pub places : s .from + s .count < 2 ^ 64
 
--- its pixels from number a up to, not including, number b
-abbrev pub partOf : Stretch → ℕ → ℕ → Stretch
-partOf s a b = record { at = s .at + 3 * a; from = s .from + a; x = s .x + a; y = s .y; count = b - a }
+-- of one that fits, the pixels from number `first` up to, not including, `end`
+pub record Inside (s : Stretch) (first end size : ℕ) : Type 0 where
+  pub small : Small s size
+  pub order : first ≤ end
+  pub last : end ≤ s .count
 
 -- a 12-bit field in two's complement, counted from -2,048
 abbrev pub biased : ℕ → ℕ

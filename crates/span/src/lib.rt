@@ -4,7 +4,7 @@ ghost use mathlib.Core.List.{[], _∷_};
 ghost use Prim.Native.Nat.{_+_, _-_, _*_, _%_, _≤_, _<_, min};
 ghost use lib.ListN.{length};
 ghost use Rattle.base.specs.Count.{run};
-ghost use Rattle.span.specs.Span.{Painted, plainColour, plainDot, Covered, fitted, Small, partOf, Clipped};
+ghost use Rattle.span.specs.Span.{Painted, plainColour, plainDot, coveredDot, Covered, fitted, Small, Inside, Clipped};
 use pixel::Dot;
 use pixel::Sums;
 
@@ -45,28 +45,28 @@ fn look(memory: &[u8], place: u64, control: u32, table: &[u32; 256]) -> u32
     table[pixel]
 }
 
-// A stretch that the cursor leaves alone.
+// The pixels of a stretch from number `first` up to, not including, `end`, which the cursor leaves alone.
 fn draw_plain(
     buffer: &mut [u8],
     memory: &[u8],
     s: Stretch,
+    first: u64,
+    end: u64,
     control: u32,
     table: &[u32; 256],
     sums: Sums,
 ) -> Sums
-    requires { ⌜ Small s ⌝ }
-    requires { ⌜ s .at + 3 * s .count ≤ length (now buffer) ⌝ }
+    requires { ⌜ Inside s first end (length (now buffer)) ⌝ }
     ensures painted { λ t. ⌜
-        Painted (now (buffer .entry)) (s .at) sums
-        (run (plainDot control (now (table .entry)) (now (memory .entry))) (s .from) (s .count))
+        Painted (now (buffer .entry)) (s .at + 3 * first) sums
+        (run (plainDot control (now (table .entry)) (now (memory .entry)) (s .from)) first (end - first))
         (now (buffer .exit)) t ⌝ }
 {
     let from = s.from;
-    let count = s.count;
     let mut t = sums;
-    let mut i: u64 = 0;
-    let mut k = s.at;
-    while i < count {
+    let mut i = first;
+    let mut k = s.at + 3 * first as usize;
+    while i < end {
         t = put(buffer, k, look(memory, from + i, control, table), t);
         i += 1;
         k += 3;
@@ -74,11 +74,13 @@ fn draw_plain(
     t
 }
 
-// A stretch with the cursor over it.
+// Those that may lie under the cursor.
 fn draw_under(
     buffer: &mut [u8],
     memory: &[u8],
     s: Stretch,
+    first: u64,
+    end: u64,
     control: u32,
     position: u32,
     table: &[u32; 256],
@@ -86,21 +88,20 @@ fn draw_under(
     colours: &[u32; 3],
     sums: Sums,
 ) -> Sums
-    requires { ⌜ Small s ⌝ }
-    requires { ⌜ s .at + 3 * s .count ≤ length (now buffer) ⌝ }
+    requires { ⌜ Inside s first end (length (now buffer)) ⌝ }
     ensures painted { λ t. ⌜
-        Covered control position (now (table .entry)) (now (store .entry)) (now (colours .entry)) (now (memory .entry))
-        s (now (buffer .entry)) sums (now (buffer .exit)) t ⌝ }
+        Painted (now (buffer .entry)) (s .at + 3 * first) sums
+        (run (coveredDot control position (now (table .entry)) (now (store .entry)) (now (colours .entry)) (now (memory .entry)) s) first (end - first))
+        (now (buffer .exit)) t ⌝ }
 {
     let from = s.from;
     let x = s.x;
     let y = s.y;
-    let count = s.count;
     let on = control::is_cursor_on(control);
     let mut t = sums;
-    let mut i: u64 = 0;
-    let mut k = s.at;
-    while i < count {
+    let mut i = first;
+    let mut k = s.at + 3 * first as usize;
+    while i < end {
         let code = base::first(on, cursor::cursor_code(store, position, x + i as u32, y), 0);
         let colour = cursor::cover(colours, code, look(memory, from + i, control, table));
         t = put(buffer, k, colour, t);
@@ -142,26 +143,10 @@ fn clip(control: u32, position: u32, s: Stretch) -> Columns
     Columns { left: 0, right: 0 }
 }
 
-// The pixels of a stretch from number a up to, not including, number b.
-fn part(s: Stretch, a: u64, b: u64) -> Stretch
-    requires { ⌜ Small s ⌝ }
-    requires { ⌜ (a ≤ b) × (b ≤ s .count) ⌝ }
-    ensures part { λ t. ⌜ t ≡ partOf s a b ⌝ }
-{
-    Stretch {
-        at: s.at + 3 * a as usize,
-        from: s.from + a,
-        x: s.x + a as u32,
-        y: s.y,
-        count: b - a,
-    }
-}
-
 // The stretch itself where it fits, and else an empty one.
 fn fitting(s: Stretch, size: usize) -> Stretch
     ensures stretch { λ t. ⌜ t ≡ fitted s size ⌝ }
-    ensures small { λ t. ⌜ Small t ⌝ }
-    ensures room { λ t. ⌜ t .at + 3 * t .count ≤ size ⌝ }
+    ensures small { λ t. ⌜ Small t size ⌝ }
 {
     let at = s.at;
     let count = s.count;
@@ -199,14 +184,13 @@ pub fn draw_stretch(
 {
     let s = fitting(given, buffer.len());
     let c = clip(control, position, s);
-    let left = part(s, 0, c.left);
-    let under = part(s, c.left, c.right);
-    let right = part(s, c.right, s.count);
-    let a = draw_plain(buffer, memory, left, control, table, sums);
+    let a = draw_plain(buffer, memory, s, 0, c.left, control, table, sums);
     let b = draw_under(
         buffer,
         memory,
-        under,
+        s,
+        c.left,
+        c.right,
         control,
         position,
         table,
@@ -214,5 +198,5 @@ pub fn draw_stretch(
         colours,
         a,
     );
-    draw_plain(buffer, memory, right, control, table, b)
+    draw_plain(buffer, memory, s, c.right, s.count, control, table, b)
 }
