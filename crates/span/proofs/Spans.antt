@@ -62,11 +62,11 @@ painted-more f from i p e q = painted-on f from i 1 p e q
 
 -- the same where the run is counted from a number on
 pub painted-turn : {b : List ℕ} {at : ℕ} {s : Sums} {b′ : List ℕ} {s′ : Sums} {k : ℕ} {b″ : List ℕ} {s″ : Sums} (f : ℕ → Dot) (a i : ℕ) → a ≤ i →
-    Painted b at s (run f a (i - a)) b′ s′ → k ≡ at + 3 * (i - a) → Painted b′ k s′ (f i ∷ []) b″ s″ → Painted b at s (run f a (i + 1 - a)) b″ s″
-painted-turn f a i l p e q =
+    Painted b at s (run f a (i - a)) b′ s′ → k + 3 * a ≡ at + 3 * i → Painted b′ k s′ (f i ∷ []) b″ s″ → Painted b at s (run f a (i + 1 - a)) b″ s″
+painted-turn {b} {at} {s} {b′} {s′} {k} f a i l p e q =
     let n : i + 1 - a ≡ i - a + 1 = omega arith in
     let j : a + (i - a) ≡ i = omega arith in
-    rw n (painted-more f a (i - a) p e (rw j q))
+    rw n (painted-more {k = k} f a (i - a) p (omega arith) (rw j q))
 
 -- a run painted from a buffer's first byte to its last is all that it holds
 pub painted-whole : {b : List ℕ} {s : Sums} {b′ : List ℕ} {s′ : Sums} (f : ℕ → Dot) (n : ℕ) → Painted b 0 s (run f 0 n) b′ s′ → length b ≡ 3 * n → b′ ≡ bytesOf (run f 0 n)

@@ -11,7 +11,7 @@ use Rattle.span.proofs.draw_plain.Tie as tie
 
 abbrev Inv-loop : tie.InvT-loop
 Inv-loop buffer₀ memory first end control table from t₀ i₀ k₀ buffer t i k =
-    (first ≤ i) × (i ≤ end) × (k ≡ k₀ + 3 * (i - first)) × Painted buffer₀ k₀ t₀ (run (plainDot control table memory from) first (i - first)) buffer t
+    (first ≤ i) × (i ≤ end) × (k + 3 * first ≡ k₀ + 3 * i) × Painted buffer₀ k₀ t₀ (run (plainDot control table memory from) first (i - first)) buffer t
 
 abbrev μ-loop : tie.MeasureT-loop
 μ-loop buffer₀ memory first end control table from t₀ i₀ k₀ buffer t i k = end - i

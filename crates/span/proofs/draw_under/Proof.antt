@@ -12,7 +12,7 @@ use Rattle.span.proofs.draw_under.Tie as tie
 
 abbrev Inv-loop : tie.InvT-loop
 Inv-loop buffer₀ memory first end control position table store colours from x y on t₀ i₀ k₀ buffer t i k =
-    (first ≤ i) × (i ≤ end) × (k ≡ k₀ + 3 * (i - first)) ×
+    (first ≤ i) × (i ≤ end) × (k + 3 * first ≡ k₀ + 3 * i) ×
     Painted buffer₀ k₀ t₀ (run (coveredDot control position table store colours memory (record { at = k₀; from = from; x = x; y = y; count = end })) first (i - first)) buffer t
 
 abbrev μ-loop : tie.MeasureT-loop
