@@ -1,7 +1,7 @@
 // A stretch of pixels drawn (01, "Rows and pixels"): bytes into the buffer, the cursor over a segment, the checksums beside.
 ghost use mathlib.Core.Path.{_≡_};
 ghost use mathlib.Core.List.{[], _∷_};
-ghost use Prim.Native.Nat.{_+_, _-_, _*_, _%_, _≤_, _<_, min};
+ghost use Prim.Native.Nat.{_+_, _-_, _*_, _≤_, min};
 ghost use lib.ListN.{length};
 ghost use Rattle.base.specs.Count.{run};
 ghost use Rattle.span.specs.Span.{Painted, plainColour, plainDot, coveredDot, Covered, fitted, Small, Inside, Clipped};
