@@ -14,7 +14,6 @@ use units::ScreenUnits;
 
 // The next tick's half line and its number in that half line; the frame's visible ticks so far; the last address; the request at the
 // last visible tick; the checksums.
-#[repr(C)]
 pub struct Generator {
     pub half: HalfLines,
     pub at: ScreenUnits,
@@ -25,7 +24,6 @@ pub struct Generator {
 }
 
 // What a tick puts out. An address is answered exactly where `transfer` is set.
-#[repr(C)]
 pub struct Signals {
     pub sync: bool,
     pub vsync: bool,
@@ -38,7 +36,6 @@ pub struct Signals {
 }
 
 // A tick's refusal or 0, what it puts out, and the generator after it.
-#[repr(C)]
 pub struct Ticked {
     pub refusal: u32,
     pub signals: Signals,

@@ -29,11 +29,11 @@ use Rattle.generator.specs.Sound.{Sound}
 use Rattle.generator.specs.declared.Generator.{Generator}
 use Rattle.frame.specs.Frame.{refusedWithin, rowAddress, addressAt, placeAt, dotFor, pixels, pictureRefuses20, sumsTo, frameEnd, Whole}
 use Rattle.frame.proofs.Whole.{whole}
-use Rattle.picture.specs.Picture.{bytesOf, refuses22, pictureRefusal, drawnOf, bufferOf}
-use Rattle.picture.specs.Span.{Painted, dotThrough}
+use Rattle.picture.specs.Picture.{refuses22, pictureRefusal, drawnOf, bufferOf}
+use Rattle.span.specs.Span.{bytesOf, Painted, dotThrough}
 use Rattle.picture.specs.Plan.{Ready, planOf, Sized, addressIn, placeIn, dotIn, refusesIn, endIn}
 use Rattle.picture.specs.declared.rows.Plan.{Plan}
-use Rattle.picture.proofs.Spans.{painted-whole}
+use Rattle.span.proofs.Spans.{painted-whole}
 
 -- a pixel of the build's depths is a byte
 bits-small : (m : List ℕ) (from n : ℕ) → bitsAt m from n < 2 ^ n

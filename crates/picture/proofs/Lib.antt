@@ -1,7 +1,5 @@
 -- Laws of a whole picture: for callers, and of its own proofs.
 pub mod Laws
-pub mod Spans
-pub mod Clips
 pub mod Segments
 pub mod Closed
 pub mod Machines

@@ -1,10 +1,12 @@
 -- The segments of a frame: what fits, where their places and colours stand, and that they join. Assumes nothing.
 use Prim.Native.Nat.{ℕ, zero, suc, _+_, _-_, _*_, _/_, _%_, _^_, _≤_, _<_, min}
-use mathlib.Core.Bool.{Bool, true, false, not, _&&_, _||_, true≢false}
+use mathlib.Core.Bool.{Bool, true, false, not, cond, _&&_, _||_, true≢false}
 use mathlib.Core.List.{List}
 use mathlib.Core.Path.{_≡_, refl, sym, ap, _∙_}
 use native.Mathlib.Nat.{mul-le-mul, mul-le-mul-right, mul-pos, div-le-self, div-lt-iff-lt-mul, div-eq-of-lt-le, div-add-mod', mod-lt, zero-add, add-zero, add-suc, mul-comm}
 use native.Mathlib.Omega.{arith}
+use borrow.Author.Tests.{leb-true, leb-false}
+use lib.Dec.{leb}
 use mir.Val.{Fits}
 use mir.Syntax.{w64}
 use Rattle.base.specs.Count.{some, run}
@@ -15,12 +17,12 @@ use Rattle.pixel.specs.declared.Dot.{Dot}
 use Rattle.pixel.specs.declared.Sums.{Sums}
 use Rattle.memory.proofs.Laws.{ends-beyond-later}
 use Rattle.generator.proofs.Bounds.{place-in}
-use Rattle.picture.specs.Span.{Painted, coveredDot, Small}
-use Rattle.picture.specs.Plan.{Sized, addressIn, placeIn, dotIn, refusesIn, Cut, stretchOf}
+use Rattle.span.specs.Span.{Painted, coveredDot, Covered, fitted}
+use Rattle.picture.specs.Plan.{Sized, addressIn, placeIn, dotIn, refusesIn, Cut}
 use Rattle.picture.specs.declared.rows.Plan.{Plan}
-use Rattle.picture.specs.declared.rows.Segment.{Segment}
-use Rattle.picture.specs.declared.span.Stretch.{Stretch}
-use Rattle.picture.proofs.Spans.{painted-on}
+use Rattle.span.specs.declared.Stretch.{Stretch}
+use Rattle.span.proofs.Spans.{painted-on}
+use Rattle.span.proofs.Fits.{fitted-whole}
 
 -- j on inside one turn of d
 div-on : (d v j : ℕ) → v % d + j < d → (v + j) / d ≡ v / d
@@ -28,6 +30,13 @@ div-on d v j p = div-eq-of-lt-le d (omega (arith, div-add-mod' v d)) (omega (ari
 
 mod-on : (d v j : ℕ) → v % d + j < d → (v + j) % d ≡ v % d + j
 mod-on d v j p = omega (arith, div-add-mod' v d, div-add-mod' (v + j) d, ap (λ (n : ℕ). n * d) (div-on d v j p))
+
+least : (a b : ℕ) → cond (leb a b) a b ≡ min a b
+least a b = go (leb a b) refl
+  where
+    go : (t : Bool) → leb a b ≡ t → cond t a b ≡ min a b
+    go true e = let h : a ≤ b = leb-true a b e in omega arith
+    go false e = let h : b < a = leb-false a b e in omega arith
 
 module _ (p : Plan) (ok : Sized p) where
   pub visible-some : 0 < p .visible
@@ -62,13 +71,25 @@ module _ (p : Plan) (ok : Sized p) where
     line-in : v / p .display < p .lines
     line-in = div-lt-iff-lt-mul (ok .display) .1 (rw (ok .visible, mul-comm) at q)
 
-    pub cut-by : (ticks from : ℕ) → ticks ≡ min (p .display - v % p .display) (p .row - v % p .row) → from ≡ placeIn p (4 * v) → from < 2 ^ 60 →
-        Cut p v (record { column = v % p .display; line = v / p .display; ticks = ticks; from = from })
-    cut-by ticks from e f b =
+    pub line-small : v / p .display < 2 ^ 32
+    line-small = omega (arith, line-in, ok .lines-most)
+
+    pub column-small : 4 * (v % p .display) < 2 ^ 32
+    column-small = omega (arith, in-line, ok .display-most)
+
+    pub ticks-small : (ticks row : ℕ) → ticks ≡ cond (leb (p .display - v % p .display) row) (p .display - v % p .display) row → 4 * ticks < 2 ^ 32
+    ticks-small ticks row e = omega (arith, e ∙ least (p .display - v % p .display) row, ok .display-most)
+
+    pub cut-by : (ticks from : ℕ) → ticks ≡ cond (leb (p .display - v % p .display) (p .row - v % p .row)) (p .display - v % p .display) (p .row - v % p .row) → from ≡ placeIn p (4 * v) → from < 2 ^ 60 →
+        Cut p v (record { at = 12 * v; from = from; x = 4 * (v % p .display); y = v / p .display; count = 4 * ticks })
+    cut-by ticks from c f b =
+        let e : ticks ≡ min (p .display - v % p .display) (p .row - v % p .row) = c ∙ least _ _ in
         let whole = mul-le-mul-right {m = v / p .display + 1} {n = p .lines} (p .display) (omega (arith, line-in)) in
         let in-row = mod-lt v (ok .row) in
         record {
           some = omega (arith, in-line);
+          count = omega arith;
+          at = refl;
           column = refl;
           line = refl;
           from = f;
@@ -76,7 +97,6 @@ module _ (p : Plan) (ok : Sized p) where
           in-row = omega arith;
           in-frame = omega (arith, in-line, div-add-mod' v (p .display), ok .visible, mul-comm (p .display) (p .lines));
           column-most = omega (arith, in-line, ok .display-most);
-          line-most = omega (arith, line-in, ok .lines-most);
           from-most = b;
         }
 
@@ -105,54 +125,52 @@ some-last bits m place from (suc n) h =
     rw (some-last bits m place from n (λ k l. h k (omega arith)), h (suc n) (omega arith))
     (or-later _ _ (λ e. ends-beyond-later bits m (from + n) (from + suc n) (omega arith) e))
 
-module _ (p : Plan) (v : ℕ) (g : Segment) (c : Cut p v g) where
+module _ (p : Plan) (v : ℕ) (s : Stretch) (c : Cut p v s) where
   -- the places of a segment are a run of places
-  place-on : (k : ℕ) → k < 4 * g .ticks → placeIn p (4 * v + k) ≡ g .from + k
+  place-on : (k : ℕ) → k < s .count → placeIn p (4 * v + k) ≡ s .from + k
   unfolding placeIn addressIn
   place-on k l =
       let t : (4 * v + k) / 4 ≡ v + k / 4 = omega arith in
       let t′ : 4 * v / 4 ≡ v = omega arith in
       let m : (4 * v + k) % 4 ≡ k % 4 = omega arith in
       let m′ : 4 * v % 4 ≡ 0 = omega arith in
-      let r : v % p .row + k / 4 < p .row = omega (arith, c .in-row) in
+      let r : v % p .row + k / 4 < p .row = omega (arith, c .in-row, c .count) in
       simp (c .from, t, t′, m, m′, div-on (p .row) v (k / 4) r, mod-on (p .row) v (k / 4) r) (omega arith)
 
+  all : 4 * (v + s .count / 4) ≡ 4 * v + s .count
+  all = omega (arith, c .count)
+
   -- one more segment of the places looked through
-  pub beyond-more : (bits : ℕ) (memory : List ℕ) (beyond far : Bool) → beyond ≡ some (λ i. endsBeyond bits memory (placeIn p i)) (4 * v) → far ≡ endsBeyond bits memory (g .from + 4 * g .ticks - 1) →
-      (beyond || far) ≡ some (λ i. endsBeyond bits memory (placeIn p i)) (4 * (v + g .ticks))
+  pub beyond-more : (bits : ℕ) (memory : List ℕ) (beyond far : Bool) → beyond ≡ some (λ i. endsBeyond bits memory (placeIn p i)) (4 * v) → far ≡ endsBeyond bits memory (s .from + s .count - 1) →
+      (beyond || far) ≡ some (λ i. endsBeyond bits memory (placeIn p i)) (4 * (v + s .count / 4))
   beyond-more bits memory beyond far e f =
-      let n = 4 * g .ticks - 1 in
-      let all : 4 * (v + g .ticks) ≡ 4 * v + suc n = omega (arith, c .some) in
-      let last : g .from + 4 * g .ticks - 1 ≡ g .from + n = omega (arith, c .some) in
-      sym (rw (all, some-append, some-last bits memory (λ k. placeIn p (4 * v + k)) (g .from) n (λ k l. place-on k (omega (arith, c .some))), ← last, ← e, ← f))
+      let n = s .count - 1 in
+      let more : 4 * v + s .count ≡ 4 * v + suc n = omega (arith, c .some) in
+      let last : s .from + s .count - 1 ≡ s .from + n = omega (arith, c .some) in
+      sym (rw (all, more, some-append, some-last bits memory (λ k. placeIn p (4 * v + k)) (s .from) n (λ k l. place-on k (omega (arith, c .some))), ← last, ← e, ← f))
 
   -- one more segment painted
   module _ (table store colours memory : List ℕ) where
     abbrev dot : ℕ → Dot
-    dot = coveredDot (p .control) (p .position) table store colours memory (stretchOf v g)
+    dot = coveredDot (p .control) (p .position) table store colours memory s
 
-    dot-on : (j : ℕ) → j < 4 * g .ticks → dotIn p table store colours memory (4 * v + j) ≡ dot (0 + j)
+    dot-on : (j : ℕ) → j < s .count → dotIn p table store colours memory (4 * v + j) ≡ dot (0 + j)
     unfolding dotIn coveredDot
     dot-on j l =
         let t : (4 * v + j) / 4 ≡ v + j / 4 = omega arith in
-        let r : v % p .display + j / 4 < p .display = omega (arith, c .in-line) in
-        let x : 4 * ((4 * v + j) / 4 % p .display) + (4 * v + j) % 4 ≡ 4 * g .column + j = rw (t, mod-on (p .display) v (j / 4) r) (omega (arith, c .column)) in
-        let y : (4 * v + j) / 4 / p .display ≡ g .line = rw (t, div-on (p .display) v (j / 4) r) (sym (c .line)) in
+        let r : v % p .display + j / 4 < p .display = omega (arith, c .in-line, c .count) in
+        let x : 4 * ((4 * v + j) / 4 % p .display) + (4 * v + j) % 4 ≡ s .x + j = rw (t, mod-on (p .display) v (j / 4) r) (omega (arith, c .column)) in
+        let y : (4 * v + j) / 4 / p .display ≡ s .y = rw (t, div-on (p .display) v (j / 4) r) (sym (c .line)) in
         rw (zero-add, x, y, place-on j l)
 
-    pub painted-rows : (b : List ℕ) (t : Sums) (b′ : List ℕ) (t′ : Sums) (b″ : List ℕ) (t″ : Sums) (s : Stretch) → s ≡ stretchOf v g →
-        Painted b 0 t (run (dotIn p table store colours memory) 0 (4 * v)) b′ t′ → Painted b′ (s .at) t′ (run (coveredDot (p .control) (p .position) table store colours memory s) 0 (s .count)) b″ t″ →
-        Painted b 0 t (run (dotIn p table store colours memory) 0 (4 * (v + g .ticks))) b″ t″
-    painted-rows b t b′ t′ b″ t″ s es d e =
+    pub painted-rows : (size : ℕ) → size ≡ 12 * p .visible → {b : List ℕ} {t : Sums} {b′ : List ℕ} {t′ : Sums} {b″ : List ℕ} {t″ : Sums} →
+        Painted b 0 t (run (dotIn p table store colours memory) 0 (4 * v)) b′ t′ → Covered (p .control) (p .position) table store colours memory (fitted s size) b′ t′ b″ t″ →
+        Painted b 0 t (run (dotIn p table store colours memory) 0 (4 * (v + s .count / 4))) b″ t″
+    painted-rows size h d e =
         let f = dotIn p table store colours memory in
-        let n : 4 * (v + g .ticks) ≡ 4 * v + 4 * g .ticks = omega arith in
-        let same : run f (0 + 4 * v) (4 * g .ticks) ≡ run dot 0 (4 * g .ticks) = rw zero-add (run-same f dot (4 * v) 0 (4 * g .ticks) dot-on) in
-        rw n (painted-on {k = 12 * v} f 0 (4 * v) (4 * g .ticks) d (omega arith) (rw same (rw es at e)))
-
-  -- what it adds up to fits
-  pub segment-fits : (size : ℕ) → size ≡ 12 * p .visible → p .visible < 2 ^ 50 → (s : Stretch) → s ≡ stretchOf v g → Small s × (s .at + 3 * s .count ≤ size)
-  segment-fits size h w s e =
-      rw e (record { bytes = omega (arith, c .in-frame); places = omega (arith, c .from-most, c .column-most); columns = omega (arith, c .column-most) }, omega (arith, c .in-frame))
+        let fits = fitted-whole s size (omega (arith, c .at, c .count, c .in-frame)) (omega (arith, c .column-most)) (omega (arith, c .from-most, c .column-most)) in
+        let same : run f (0 + 4 * v) (s .count) ≡ run dot 0 (s .count) = rw zero-add (run-same f dot (4 * v) 0 (s .count) dot-on) in
+        rw all (painted-on {k = s .at} f 0 (4 * v) (s .count) d (omega (arith, c .at)) (rw same (rw fits at e)))
 
 read-all : (a b c : Bool) → (a && b) ≡ true → c ≡ (a && (b && c))
 read-all true true c e = refl

@@ -1,5 +1,4 @@
 -- A whole picture: its promise, and the definitions of the code that draws it.
 pub mod Picture
-pub mod Span
 pub mod Plan
 pub mod Machines

@@ -2,24 +2,18 @@
 -- g: the generator before it. Assumes nothing.
 use Prim.Native.Nat.{ℕ, _*_}
 use mathlib.Core.Bool.{Bool, not, cond, _&&_, _||_}
-use mathlib.Core.List.{List, [], _∷_}
+use mathlib.Core.List.{List}
 use lib.Dec.{eqb}
 use lib.ListN.{length}
 use Rattle.control.specs.Control.{running}
 use Rattle.screen.specs.Totals.{frameTicks, framePixels}
 use Rattle.registers.specs.declared.Registers.{Registers}
-use Rattle.colour.specs.Colour.{red, green, blue}
-use Rattle.pixel.specs.declared.Dot.{Dot}
+use Rattle.span.specs.Span.{bytesOf}
 use Rattle.generator.specs.Rows.{screen}
 use Rattle.generator.specs.Tick.{after}
 use Rattle.generator.specs.declared.Generator.{Generator}
 use Rattle.frame.specs.Frame.{drawn, refusedWithin}
 use Rattle.picture.specs.declared.Drawn.{Drawn}
-
--- red, green, blue for each dot, in order
-unfoldable pub bytesOf : List Dot → List ℕ
-bytesOf [] = []
-bytesOf (dot ∷ rest) = red (dot .colour) ∷ green (dot .colour) ∷ blue (dot .colour) ∷ bytesOf rest
 
 -- 22: asked while stopped or not at a frame start
 abbrev pub refuses22 : Registers → Generator → Bool

@@ -15,10 +15,9 @@ use Rattle.pixel.specs.declared.Dot.{Dot}
 use Rattle.pixel.specs.declared.Sums.{Sums}
 use Rattle.generator.specs.Rows.{screen}
 use Rattle.generator.specs.declared.Generator.{Generator}
-use Rattle.picture.specs.Span.{dotThrough}
+use Rattle.span.specs.Span.{dotThrough}
 use Rattle.picture.specs.declared.rows.Plan.{Plan}
-use Rattle.picture.specs.declared.rows.Segment.{Segment}
-use Rattle.picture.specs.declared.span.Stretch.{Stretch}
+use Rattle.span.specs.declared.Stretch.{Stretch}
 
 -- the part of the one condition that a picture uses
 pub record Ready (r : Registers) : Type 0 where
@@ -80,19 +79,16 @@ endIn p sums =
       sums = sums;
     }
 
--- the segment from visible tick v on, up to the line's end or the row's
-pub record Cut (p : Plan) (v : ℕ) (g : Segment) : Type 0 where
-  pub some : 0 < g .ticks
-  pub column : g .column ≡ v % p .display
-  pub line : g .line ≡ v / p .display
-  pub from : g .from ≡ placeIn p (4 * v)
-  pub in-line : v % p .display + g .ticks ≤ p .display
-  pub in-row : v % p .row + g .ticks ≤ p .row
-  pub in-frame : v + g .ticks ≤ p .visible
-  pub column-most : g .column + g .ticks ≤ 0xFFFFFF
-  pub line-most : g .line < 0xFFFFFF
-  pub from-most : g .from < 2 ^ 60
-
--- its pixels
-abbrev pub stretchOf : ℕ → Segment → Stretch
-stretchOf v g = record { at = 12 * v; from = g .from; x = 4 * g .column; y = g .line; count = 4 * g .ticks }
+-- the segment from visible tick v on, up to the line's end or the row's: four pixels for each of its ticks
+pub record Cut (p : Plan) (v : ℕ) (s : Stretch) : Type 0 where
+  pub some : 0 < s .count / 4
+  pub count : s .count ≡ 4 * (s .count / 4)
+  pub at : s .at ≡ 12 * v
+  pub column : s .x ≡ 4 * (v % p .display)
+  pub line : s .y ≡ v / p .display
+  pub from : s .from ≡ placeIn p (4 * v)
+  pub in-line : v % p .display + s .count / 4 ≤ p .display
+  pub in-row : v % p .row + s .count / 4 ≤ p .row
+  pub in-frame : v + s .count / 4 ≤ p .visible
+  pub column-most : s .x + s .count < 2 ^ 27
+  pub from-most : s .from < 2 ^ 60

@@ -1,19 +1,19 @@
 // A whole picture (01, "Refusal numbers", 20 to 22; "Rows and pixels"): a frame drawn at once, as its ticks draw it.
 mod rows;
-mod span;
 mod whole;
 
 pub use whole::Pictured;
 pub use whole::draw_machine;
 ghost use mathlib.Core.Path.{_≡_};
 ghost use Prim.Native.Nat.{_*_};
-ghost use lib.ListN.{length};
+ghost use lib.ListN.{length, replicate};
 ghost use Rattle.base.specs.Count.{run};
 ghost use Rattle.screen.specs.Totals.{frameVisible};
+ghost use Rattle.span.specs.Span.{bytesOf};
 ghost use Rattle.generator.specs.Rows.{screen};
 ghost use Rattle.generator.specs.Sound.{Sound};
 ghost use Rattle.frame.specs.Frame.{pixels, dotFor, sumsTo};
-ghost use Rattle.picture.specs.Picture.{bytesOf, refuses22, pictureRefusal, drawnOf, bufferOf};
+ghost use Rattle.picture.specs.Picture.{pictureRefusal, drawnOf, bufferOf};
 ghost use Rattle.picture.specs.Plan.{Ready, planOf};
 use generator::Generator;
 use pixel::Sums;
@@ -25,27 +25,30 @@ pub struct Drawn {
     pub next: Generator,
 }
 
-// Refusal 22: stopped, or not before the first tick of a frame.
-fn refuses_22(r: Registers, g: Generator) -> bool
-    ensures refusal { λ b. ⌜ b ≡ refuses22 r g ⌝ }
-{
-    let on = control::is_running(r.control);
-    !on | !((g.half.0 == 0) & (g.at.0 == 0))
-}
-
-// The refusal of a picture into `size` bytes, or 0: settled before a byte is written.
+// The refusal of a picture into `size` bytes, or 0: settled before a byte is written. 22: stopped, or not before the first tick of a frame.
 fn refusal_of(r: Registers, g: Generator, memory: &[u8], size: u64) -> u32
     requires { ⌜ Sound r g ⌝ }
     ensures refusal { λ n. ⌜ n ≡ pictureRefusal r (now (memory .entry)) g size ⌝ }
 {
-    let early = refuses_22(r, g);
-    if early {
+    let on = control::is_running(r.control);
+    if !on | !((g.half.0 == 0) & (g.at.0 == 0)) {
         return 22;
     }
     let p = rows::plan_of(r);
     let wrong = size != 12 * p.visible;
     let far = rows::refuses_20(p, memory);
     base::first(wrong, 21, base::first(far, 20, 0))
+}
+
+// Every byte 0.
+fn blacken(buffer: &mut [u8])
+    ensures bytes { λ _. ⌜ now (buffer .exit) ≡ replicate (length (now (buffer .entry))) 0 ⌝ }
+{
+    let mut k: usize = 0;
+    while k < buffer.len() {
+        buffer[k] = 0;
+        k += 1;
+    }
 }
 
 // The picture of a frame that nothing refuses, and its sums. Forced blank: black, nothing read, nothing added.
@@ -61,7 +64,7 @@ fn draw_frame(r: Registers, p: rows::Plan, memory: &[u8], buffer: &mut [u8]) -> 
     let colours = r.colours;
     let blank = control::is_forced_blank(r.control);
     if blank {
-        span::blacken(buffer);
+        blacken(buffer);
         return Sums::none();
     }
     let table = colour::masked_palette(&palette, r.mask);

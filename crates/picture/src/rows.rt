@@ -1,18 +1,17 @@
 // The rows of a frame (01, "Rows and pixels"): its numbers, its segments, refusal 20, the picture segment by segment, and the end.
 ghost use mathlib.Core.Path.{_≡_};
-ghost use Prim.Native.Nat.{_+_, _*_, _^_, _≤_, _<_, min};
+ghost use Prim.Native.Nat.{_*_, _^_, _<_};
 ghost use lib.ListN.{length};
 ghost use Rattle.base.specs.Count.{run, some};
 ghost use Rattle.control.specs.Control.{pixelBits};
 ghost use Rattle.memory.specs.Memory.{endsBeyond};
 ghost use Rattle.pixel.specs.Sums.{none};
-ghost use Rattle.picture.specs.Span.{Painted};
-ghost use Rattle.picture.specs.Plan.{Ready, planOf, Sized, addressIn, placeIn, dotIn, refusesIn, endIn, Cut, stretchOf};
-use crate::span;
-use crate::span::Stretch;
+ghost use Rattle.span.specs.Span.{Painted};
+ghost use Rattle.picture.specs.Plan.{Ready, planOf, Sized, addressIn, placeIn, dotIn, refusesIn, endIn, Cut};
 use generator::Generator;
 use pixel::Sums;
 use registers::Registers;
+use span::Stretch;
 use units::HalfLines;
 use units::ScreenUnits;
 
@@ -27,14 +26,6 @@ pub struct Plan {
     pub increment: u64,
     pub control: u32,
     pub position: u32,
-}
-
-// The part of a row within one line: its first tick's column and line, its ticks, and the place of its first pixel.
-pub struct Segment {
-    pub column: u64,
-    pub line: u64,
-    pub ticks: u64,
-    pub from: u64,
 }
 
 pub fn plan_of(r: Registers) -> Plan
@@ -80,27 +71,23 @@ fn first_place(p: Plan, v: u64) -> u64
     (address / p.increment * p.row + v % p.row) * 4
 }
 
-fn least(a: u64, b: u64) -> u64
-    ensures least { λ n. ⌜ n ≡ min a b ⌝ }
-{
-    if a <= b { a } else { b }
-}
-
-// The segment from visible tick v on.
-fn segment_at(p: Plan, v: u64) -> Segment
+// The segment from visible tick v on: the pixels up to the line's end or the row's.
+fn segment_at(p: Plan, v: u64) -> Stretch
     requires { ⌜ Sized p ⌝ }
     requires { ⌜ v < p .visible ⌝ }
-    ensures segment { λ g. ⌜ Cut p v g ⌝ }
+    ensures segment { λ s. ⌜ Cut p v s ⌝ }
 {
     let column = v % p.display;
-    let line = v / p.display;
-    let ticks = least(p.display - column, p.row - v % p.row);
+    let line = p.display - column;
+    let row = p.row - v % p.row;
+    let ticks = base::choose(line <= row, line, row);
     let from = first_place(p, v);
-    Segment {
-        column,
-        line,
-        ticks,
+    Stretch {
+        at: (12 * v) as usize,
         from,
+        x: (4 * column) as u32,
+        y: (v / p.display) as u32,
+        count: 4 * ticks,
     }
 }
 
@@ -112,10 +99,10 @@ fn is_beyond(p: Plan, memory: &[u8]) -> bool
     let mut beyond = false;
     let mut v: u64 = 0;
     while v < p.visible {
-        let g = segment_at(p, v);
-        let far = memory::ends_beyond(p.control, memory, g.from + 4 * g.ticks - 1);
+        let s = segment_at(p, v);
+        let far = memory::ends_beyond(p.control, memory, s.from + s.count - 1);
         beyond = beyond | far;
-        v += g.ticks;
+        v += s.count / 4;
     }
     beyond
 }
@@ -131,20 +118,6 @@ pub fn refuses_20(p: Plan, memory: &[u8]) -> bool
         return is_beyond(p, memory);
     }
     false
-}
-
-// The pixels of a segment that begins with visible tick v.
-fn stretch_of(v: u64, g: Segment) -> Stretch
-    requires { ⌜ (v < 2 ^ 50) × (g .column + g .ticks ≤ 0xFFFFFF) × (g .line < 0xFFFFFF) ⌝ }
-    ensures stretch { λ s. ⌜ s ≡ stretchOf v g ⌝ }
-{
-    Stretch {
-        at: (12 * v) as usize,
-        from: g.from,
-        x: (4 * g.column) as u32,
-        y: g.line as u32,
-        count: 4 * g.ticks,
-    }
 }
 
 // The picture, segment by segment.
@@ -168,8 +141,7 @@ pub fn draw_rows(
     let mut t = Sums::none();
     let mut v: u64 = 0;
     while v < p.visible {
-        let g = segment_at(p, v);
-        let s = stretch_of(v, g);
+        let s = segment_at(p, v);
         t = span::draw_stretch(
             buffer,
             memory,
@@ -181,7 +153,7 @@ pub fn draw_rows(
             colours,
             t,
         );
-        v += g.ticks;
+        v += s.count / 4;
     }
     t
 }

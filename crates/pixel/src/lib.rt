@@ -5,13 +5,11 @@ ghost use Rattle.pixel.specs.Dot.{dotAt};
 ghost use Rattle.pixel.specs.Sums.{none, added, clearedAt, summedWhere};
 
 // A pixel that goes out: its colour, red in bits 23 to 16, green, blue.
-#[repr(C)]
 pub struct Dot {
     pub colour: u32,
 }
 
 // The three 24-bit sums of colour bytes.
-#[repr(C)]
 pub struct Sums {
     pub red: u32,
     pub green: u32,

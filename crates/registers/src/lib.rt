@@ -4,7 +4,6 @@ ghost use Rattle.registers.specs.File.{zeros, valueIn, storeIn};
 ghost use Rattle.map.specs.declared.Place.the-variants.{Screen, Colour, Palette, Store};
 use map::Place;
 
-#[repr(C)]
 pub struct Registers {
     pub params: [u32; 14],
     pub mask: u32,

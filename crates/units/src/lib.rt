@@ -4,10 +4,8 @@ ghost use Rattle.units.specs.Units.{pixelsOf, unitsOf};
 ghost use Rattle.units.specs.Parameters.{screenOf};
 
 // Three counts that never stand in for one another. One screen unit is one tick.
-#[repr(C)]
 pub struct ScreenUnits(pub u64);
 
-#[repr(C)]
 pub struct HalfLines(pub u64);
 
 pub struct Pixels(pub u64);

@@ -18,7 +18,7 @@ for tool in ld.lld llvm-ar; do ln -s "$tools/bin/clang" "$out/toolchain/bin/$too
 printf '#!/bin/sh\nfor w in "$@"; do case $w in *.bc) cp "$w" "%s/module.bc" ;; esac; done\nexec "%s/bin/clang" "$@"\n' "$out" "$tools" >"$out/toolchain/bin/clang"
 chmod +x "$out/toolchain/bin/clang"
 
-deps='base control screen registers pixel generator machine frame picture'
+deps='base control units screen registers pixel generator machine frame picture'
 rt check $deps speed >"$out/check" 2>&1 || { tail "$out/check" >&2; exit 1; }
 set -- "${1:-200}"
 words=''

@@ -1,7 +1,8 @@
 -- `picture::refusal_of` meets its contract: 22, or the later two in their order. Assumes nothing.
-use mathlib.Core.Bool.{false}
+use mathlib.Core.Bool.{false, not, _&&_, _||_}
 use mathlib.Core.Path.{_≡_, sym, _∙_}
 use native.Mathlib.Omega.{arith}
+use lib.Dec.{eqb}
 use borrow.Author.Needs.{needs}
 use Rattle.picture.specs.Picture.{refuses22}
 use Rattle.picture.specs.Plan.{Sized}
@@ -10,23 +11,30 @@ use Rattle.picture.proofs.Closed.{ready, plan-sized, refusal-22, refusa
 use Rattle.picture.proofs.refusal_of.Statement.{statement}
 use Rattle.picture.proofs.refusal_of.Tie as tie
 
-begins : (c : tie.Else1) → refuses22 (c .before .before .before .args .r) (c .before .before .before .args .g) ≡ false
-begins c = sym (c .before .refuses-22 .ensures) ∙ c .if1 .left
+early : (c : tie.After-is-running) →
+    let a = c .before .before .args in (not (c .is-running .result) || not (eqb (a .g .half .0) 0 && eqb (a .g .at .0) 0)) ≡ refuses22 (a .r) (a .g)
+early c = rw (c .is-running .ensures)
+
+begins : (c : tie.Else1) → let a = c .before .before .before .before .before .args in refuses22 (a .r) (a .g) ≡ false
+begins c = sym (early (c .before .before .before)) ∙ c .if1 .left
 
 plan : (c : tie.After-plan-of) → Sized (c .plan-of .result)
-plan c = let start = c .before .before .before .before in plan-sized (start .args .r) (start .args .g) (start .pre) (begins (c .before)) _ (c .plan-of .ensures)
+plan c =
+    let start = c .before .before .before .before .before .before in
+    plan-sized (start .args .r) (start .args .g) (start .pre) (begins (c .before)) _ (c .plan-of .ensures)
 
 returns : tie.Need-returns
 returns c =
-    let start = c .before .before .before in
-    refusal-22 (start .args .r) (start .args .memory .now) (start .args .g) (start .args .size) (start .pre) _ (c .before .refuses-22 .ensures) (c .if1 .taken)
+    let on = c .before .before .before in
+    let start = on .before .before in
+    refusal-22 (start .args .r) (start .args .memory .now) (start .args .g) (start .args .size) (start .pre) _ (early on) (c .if1 .taken)
 
 returns-2 : tie.Need-returns-2
 returns-2 c =
     let p = c .before .before .before .before in
-    let early = p .before in
-    let start = early .before .before .before in
-    refusal-later (start .args .r) (start .args .memory .now) (start .args .g) (start .args .size) (start .pre) _ (early .before .refuses-22 .ensures) (early .if1 .left) _ (p .plan-of .ensures)
+    let on = p .before .before .before .before in
+    let start = on .before .before in
+    refusal-later (start .args .r) (start .args .memory .now) (start .args .g) (start .args .size) (start .pre) _ (early on) (p .before .if1 .left) _ (p .plan-of .ensures)
     _ (c .before .before .refuses-20 .ensures) _ _ (c .before .first .ensures) (c .first2 .ensures)
 
 pub refusal-of-spec : {M : Type 1} → statement M
@@ -35,7 +43,7 @@ refusal-of-spec =
     (tie.spec
     (λ c κs. search needs)
     returns
-    (λ c κs. let start = c .before .before .before in ready (start .args .r) (start .args .g) (start .pre) (begins c))
+    (λ c κs. let start = c .before .before .before .before .before in ready (start .args .r) (start .args .g) (start .pre) (begins c))
     (λ c. omega (arith, visible-most _ (plan (c .before))))
     (λ c κs. plan (c .before))
     (λ c κs. search needs)

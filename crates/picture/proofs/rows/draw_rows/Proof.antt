@@ -5,10 +5,10 @@ use native.Mathlib.Omega.{arith}
 use borrow.Author.Needs.{needs}
 use Rattle.base.specs.Count.{run}
 use Rattle.pixel.specs.Sums.{none}
-use Rattle.picture.specs.Span.{Painted}
+use Rattle.span.specs.Span.{Painted}
 use Rattle.picture.specs.Plan.{dotIn}
-use Rattle.picture.proofs.Spans.{painted-none, painted-length}
-use Rattle.picture.proofs.Segments.{visible-most, segment-fits, painted-rows}
+use Rattle.span.proofs.Spans.{painted-none, painted-length}
+use Rattle.picture.proofs.Segments.{visible-most, painted-rows}
 use Rattle.picture.proofs.rows.draw_rows.Statement.{statement}
 use Rattle.picture.proofs.rows.draw_rows.Tie as tie
 
@@ -23,21 +23,15 @@ loop-holds : tie.Need-loop-holds Inv-loop μ-loop
 unfolding run
 loop-holds c = (omega arith, painted-none _ _ _)
 
-draw-stretch-requires : tie.Need-draw-stretch-requires Inv-loop μ-loop
-draw-stretch-requires c κs =
-    let g = c .before .before in
-    let now = g .before .before .before .loop in
-    let start = g .before .before .before .before .before .before .before in
-    segment-fits (start .args .p) (now .v) _ (g .segment-at .ensures) _ (painted-length (now .inv .1) ∙ start .pre .1) (omega (arith, visible-most (start .args .p) (start .pre .0))) _ (c .before .stretch-of .ensures)
-
 loop-again : tie.Need-loop-again Inv-loop μ-loop
 loop-again c =
-    let s = c .before .before .before .before .before in
-    let g = s .before in
+    let g = c .before .before .before .before .before in
     let now = g .before .before .before .loop in
-    let a = g .before .before .before .before .before .before .before .args in (
+    let start = g .before .before .before .before .before .before .before in
+    let a = start .args in (
       search needs,
-      painted-rows (a .p) (now .v) _ (g .segment-at .ensures) (a .table .now) (a .store .now) (a .colours .now) (a .memory .now) _ _ _ _ _ _ _ (s .stretch-of .ensures) (now .inv .1) (c .before .before .before .draw-stretch .ensures),
+      painted-rows (a .p) (now .v) _ (g .segment-at .ensures) (a .table .now) (a .store .now) (a .colours .now) (a .memory .now) _ (painted-length (now .inv .1) ∙ start .pre .1) (now .inv .1)
+          (c .before .before .before .draw-stretch .ensures),
     )
 
 returns : tie.Need-returns Inv-loop μ-loop
@@ -56,13 +50,9 @@ draw-rows-spec =
     (λ c κs. search needs)
     loop-holds
     (λ c κs. search needs)
-    (λ c κs.
-    let start = c .before .before .before .before .before .before .before in
-    let cut = c .segment-at .ensures in
-    (omega (arith, visible-most (start .args .p) (start .pre .0)), cut .column-most, cut .line-most))
-    draw-stretch-requires
+    (λ c κs. search needs)
     (λ c.
-    let g = c .before .before .before .before .before .before in
+    let g = c .before .before .before .before .before in
     let start = g .before .before .before .before .before .before .before in
     omega (arith, g .segment-at .ensures .in-frame, visible-most (start .args .p) (start .pre .0)))
     (λ c. search needs)

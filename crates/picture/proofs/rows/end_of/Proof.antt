@@ -16,4 +16,4 @@ end-of-spec =
     (λ c κs. let s = c .before .before in (s .pre, omega (arith, visible-some (s .args .p) (s .pre))))
     (λ c. search needs)
     (λ c. search needs)
-    (λ c. cc (c .before .before .address-at .ensures .0)))
+    (λ c. rw (c .before .before .address-at .ensures .0, c .before .before .before .is-transferring .ensures)))

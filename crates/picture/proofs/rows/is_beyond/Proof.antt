@@ -24,7 +24,7 @@ loop-holds c = (omega arith, refl)
 
 loop-again : tie.Need-loop-again Inv-loop μ-loop
 loop-again c =
-    let g = c .before .before .before .before in
+    let g = c .before .before .before in
     let now = g .before .before .before .loop in
     let a = g .before .before .before .before .before .args in (
       search needs,
@@ -45,7 +45,6 @@ is-beyond-spec =
     μ-loop
     loop-holds
     (λ c κs. search needs)
-    (λ c. search needs)
     (λ c. search needs)
     (λ c. search needs)
     (λ c κs. search needs)

@@ -11,4 +11,4 @@ draw-machine-spec =
     (tie.spec
     (λ c κs. search needs)
     (λ c. search needs)
-    (λ c. (let e = c .before .before .before .draw .ensures .0 in cc, c .before .before .before .draw .ensures .1)))
+    (λ c. (rw (c .before .before .before .draw .ensures .0), c .before .before .before .draw .ensures .1)))

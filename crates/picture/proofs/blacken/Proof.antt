@@ -1,4 +1,4 @@
--- `picture::span::blacken` meets its contract. The invariant: the bytes before k are 0, and the others stand. Assumes nothing.
+-- `picture::blacken` meets its contract. The invariant: the bytes before k are 0, and the others stand. Assumes nothing.
 use Prim.Native.Nat.{_-_, _≤_}
 use mathlib.Core.List.{_++_, append-nil}
 use mathlib.Core.Path.{_≡_, _∙_}
@@ -6,8 +6,8 @@ use native.Mathlib.Omega.{arith}
 use borrow.Author.Fill.{fill-none, fill-more}
 use lib.ListN.{length, drop, replicate, length-set}
 use lib.Seq.{drop-length}
-use Rattle.picture.proofs.span.blacken.Statement.{statement}
-use Rattle.picture.proofs.span.blacken.Tie as tie
+use Rattle.picture.proofs.blacken.Statement.{statement}
+use Rattle.picture.proofs.blacken.Tie as tie
 
 abbrev Inv-loop : tie.InvT-loop
 Inv-loop buffer₀ k₀ buffer k = (k ≤ length buffer) × (length buffer ≡ length buffer₀) × (buffer ≡ replicate k 0 ++ drop k buffer₀)

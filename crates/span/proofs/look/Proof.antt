@@ -1,7 +1,7 @@
--- `picture::span::look` meets its contract: a pixel is a byte, and picks an entry. Assumes nothing.
+-- `span::look` meets its contract: a pixel is a byte, and picks an entry. Assumes nothing.
 use borrow.Author.Needs.{needs}
-use Rattle.picture.proofs.span.look.Statement.{statement}
-use Rattle.picture.proofs.span.look.Tie as tie
+use Rattle.span.proofs.look.Statement.{statement}
+use Rattle.span.proofs.look.Tie as tie
 
 pub look-spec : {M : Type 1} → statement M
 look-spec =

@@ -2,7 +2,7 @@
 use Prim.Native.Nat.{ℕ, suc, _+_, _-_, _*_, _≤_, _<_}
 use mathlib.Core.List.{List, [], _∷_, _++_, append-nil}
 use mathlib.Core.Path.{_≡_, refl, ap, _∙_}
-use native.Mathlib.Nat.{add-zero, zero-add, add-suc, suc-add, add-assoc}
+use native.Mathlib.Nat.{add-zero, zero-add, add-suc, suc-add}
 use native.Mathlib.Omega.{arith}
 use lib.ListN.{length, set}
 use lib.Seq.{sets, sets-eq, length-sets, drop-length}
@@ -13,10 +13,9 @@ use Rattle.pixel.specs.Sums.{summed}
 use Rattle.pixel.specs.declared.Dot.{Dot}
 use Rattle.pixel.specs.declared.Sums.{Sums}
 use Rattle.pixel.proofs.Laws.{summed-join}
-use Rattle.picture.specs.Picture.{bytesOf}
-use Rattle.picture.specs.Span.{Painted, plainDot, codeOver, dotThrough, coveredDot, Small, partOf, Clipped}
-use Rattle.picture.specs.declared.span.Columns.{Columns}
-use Rattle.picture.specs.declared.span.Stretch.{Stretch}
+use Rattle.span.specs.Span.{bytesOf, Painted, plainDot, codeOver, dotThrough, coveredDot, Clipped}
+use Rattle.span.specs.declared.Columns.{Columns}
+use Rattle.span.specs.declared.Stretch.{Stretch}
 
 -- stores in a row, and then further ones right behind, are the stores of both
 sets-append : (l : List ℕ) (i : ℕ) (xs ys : List ℕ) → sets l i (xs ++ ys) ≡ sets (sets l i xs) (i + length xs) ys
@@ -61,6 +60,14 @@ pub painted-more : {b : List ℕ} {at : ℕ} {s : Sums} {b′ : List ℕ} {s′ 
 unfolding run
 painted-more f from i p e q = painted-on f from i 1 p e q
 
+-- the same where the run is counted from a number on
+pub painted-turn : {b : List ℕ} {at : ℕ} {s : Sums} {b′ : List ℕ} {s′ : Sums} {k : ℕ} {b″ : List ℕ} {s″ : Sums} (f : ℕ → Dot) (a i : ℕ) → a ≤ i →
+    Painted b at s (run f a (i - a)) b′ s′ → k + 3 * a ≡ at + 3 * i → Painted b′ k s′ (f i ∷ []) b″ s″ → Painted b at s (run f a (i + 1 - a)) b″ s″
+painted-turn {b} {at} {s} {b′} {s′} {k} f a i l p e q =
+    let n : i + 1 - a ≡ i - a + 1 = omega arith in
+    let j : a + (i - a) ≡ i = omega arith in
+    rw n (painted-more {k = k} f a (i - a) p (omega arith) (rw j q))
+
 -- a run painted from a buffer's first byte to its last is all that it holds
 pub painted-whole : {b : List ℕ} {s : Sums} {b′ : List ℕ} {s′ : Sums} (f : ℕ → Dot) (n : ℕ) → Painted b 0 s (run f 0 n) b′ s′ → length b ≡ 3 * n → b′ ≡ bytesOf (run f 0 n)
 painted-whole {b} f n p e =
@@ -68,46 +75,41 @@ painted-whole {b} f n p e =
     let all : length bytes ≡ length b = omega (arith, bytes-length (run f 0 n), run-length f 0 n) in
     p .stored ∙ sets-eq bytes b 0 (omega arith) ∙ simp (zero-add, all, drop-length) (append-nil bytes)
 
--- a part of a stretch that fits
-pub part-fits : (s : Stretch) → Small s → (size : ℕ) → s .at + 3 * s .count ≤ size → (a b : ℕ) → a ≤ b → b ≤ s .count → (part : Stretch) → part ≡ partOf s a b → Small part × (part .at + 3 * part .count ≤ size)
-part-fits s k size h a b l w part e = rw e (record { bytes = omega (arith, k .bytes); places = omega (arith, k .places); columns = omega (arith, k .columns) }, omega arith)
-
 module _ (control position : ℕ) (table store colours m : List ℕ) (s : Stretch) where
   abbrev dot : ℕ → Dot
   dot = coveredDot control position table store colours m s
 
+  -- where a stretch is stored, and how long it is, changes no pixel
+  pub dot-run : (at count a n : ℕ) → run dot a n ≡ run (coveredDot control position table store colours m (record { at = at; from = s .from; x = s .x; y = s .y; count = count })) a n
+  unfolding coveredDot
+  dot-run at count a n = run-same dot (coveredDot control position table store colours m (record { at = at; from = s .from; x = s .x; y = s .y; count = count })) a a n (λ j l. refl)
+
+  abbrev plain : ℕ → Dot
+  plain = plainDot control table m (s .from)
+
   -- where the cursor's code is 0, what is below shows
-  plain-dot : (j : ℕ) → codeOver control position store (s .x + j) (s .y) ≡ 0 → dot j ≡ plainDot control table m (s .from + j)
+  plain-dot : (j : ℕ) → codeOver control position store (s .x + j) (s .y) ≡ 0 → dot j ≡ plain j
   unfolding coveredDot dotThrough
   plain-dot j e = rw e
 
   -- n pixels from a on that the cursor leaves alone
-  plain-run : (a n : ℕ) → ((j : ℕ) → a ≤ j → j < a + n → codeOver control position store (s .x + j) (s .y) ≡ 0) → run dot a n ≡ run (plainDot control table m) (s .from + a) n
-  plain-run a n h = run-same dot (plainDot control table m) a (s .from + a) n (λ j l. plain-dot (a + j) (h (a + j) (omega arith) (omega arith)) ∙ rw add-assoc)
-
-  -- the pixels from a on are a stretch of their own
-  part-run : (a b : ℕ) → run dot a (b - a) ≡ run (coveredDot control position table store colours m (partOf s a b)) 0 (b - a)
-  unfolding coveredDot
-  part-run a b = run-same dot (coveredDot control position table store colours m (partOf s a b)) a 0 (b - a) (λ j l. rw (zero-add, add-assoc, add-assoc))
+  plain-run : (a n : ℕ) → ((j : ℕ) → a ≤ j → j < a + n → codeOver control position store (s .x + j) (s .y) ≡ 0) → run dot a n ≡ run plain a n
+  plain-run a n h = run-same dot plain a a n (λ j l. plain-dot (a + j) (h (a + j) (omega arith) (omega arith)))
 
   -- a stretch in three parts
-  pub painted-stretch : (c : Columns) → Clipped control position s c → (left under right : Stretch) → left ≡ partOf s 0 (c .left) → under ≡ partOf s (c .left) (c .right) → right ≡ partOf s (c .right) (s .count) →
-      {b : List ℕ} {t : Sums} {b₁ : List ℕ} {t₁ : Sums} {b₂ : List ℕ} {t₂ : Sums} {b₃ : List ℕ} {t₃ : Sums} →
-      Painted b (left .at) t (run (plainDot control table m) (left .from) (left .count)) b₁ t₁ →
-      Painted b₁ (under .at) t₁ (run (coveredDot control position table store colours m under) 0 (under .count)) b₂ t₂ →
-      Painted b₂ (right .at) t₂ (run (plainDot control table m) (right .from) (right .count)) b₃ t₃ → Painted b (s .at) t (run dot 0 (s .count)) b₃ t₃
-  painted-stretch c k left under right el eu er {b} {t} {b₁} {t₁} {b₂} {t₂} {b₃} {t₃} p q r =
+  pub painted-stretch : (c : Columns) → Clipped control position s c → {b : List ℕ} {t : Sums} {b₁ : List ℕ} {t₁ : Sums} {b₂ : List ℕ} {t₂ : Sums} {b₃ : List ℕ} {t₃ : Sums} →
+      Painted b (s .at + 3 * 0) t (run plain 0 (c .left - 0)) b₁ t₁ →
+      Painted b₁ (s .at + 3 * c .left) t₁ (run dot (c .left) (c .right - c .left)) b₂ t₂ →
+      Painted b₂ (s .at + 3 * c .right) t₂ (run plain (c .right) (s .count - c .right)) b₃ t₃ → Painted b (s .at) t (run dot 0 (s .count)) b₃ t₃
+  painted-stretch c k {b} {t} {b₁} {t₁} {b₂} {t₂} {b₃} {t₃} p q r =
       let l = c .left in
       let h = c .right in
-      let p′ : Painted b (s .at + 3 * 0) t (run (plainDot control table m) (s .from + 0) (l - 0)) b₁ t₁ = rw el at p in
-      let q′ : Painted b₁ (s .at + 3 * l) t₁ (run (coveredDot control position table store colours m (partOf s l h)) 0 (h - l)) b₂ t₂ = rw eu at q in
-      let r′ : Painted b₂ (s .at + 3 * h) t₂ (run (plainDot control table m) (s .from + h) (s .count - h)) b₃ t₃ = rw er at r in
       let z : s .at + 3 * 0 ≡ s .at = omega arith in
       let m₀ : l - 0 ≡ l = omega arith in
-      let first : Painted b (s .at) t (run dot 0 l) b₁ t₁ = rw (plain-run 0 l (λ j _ i. k .before store j (omega arith))) (rw (z, m₀) at p′) in
-      let amid : Painted b₁ (s .at + 3 * l) t₁ (run dot (0 + l) (h - l)) b₂ t₂ = rw (zero-add, part-run l h) q′ in
+      let first : Painted b (s .at) t (run dot 0 l) b₁ t₁ = rw (plain-run 0 l (λ j _ i. k .before store j (omega arith))) (rw (z, m₀) at p) in
       let n : l + (h - l) ≡ h = omega (arith, k .order) in
+      let amid : Painted b₁ (s .at + 3 * l) t₁ (run dot (0 + l) (h - l)) b₂ t₂ = rw zero-add q in
       let two : Painted b (s .at) t (run dot 0 h) b₂ t₂ = rw n at (painted-on dot 0 l (h - l) first refl amid) in
-      let last : Painted b₂ (s .at + 3 * h) t₂ (run dot (0 + h) (s .count - h)) b₃ t₃ = rw (zero-add, plain-run h (s .count - h) (λ j g i. k .after store j g (omega (arith, k .end)))) r′ in
+      let last : Painted b₂ (s .at + 3 * h) t₂ (run dot (0 + h) (s .count - h)) b₃ t₃ = rw (zero-add, plain-run h (s .count - h) (λ j g i. k .after store j g (omega (arith, k .end)))) r in
       let w : h + (s .count - h) ≡ s .count = omega (arith, k .end) in
       rw w at (painted-on dot 0 h (s .count - h) two refl last)
