@@ -81,13 +81,20 @@ fn later_limit(control: u32, s: Screen) -> u32
     requires { ⌜ Bounded 0xFFFFFF s ⌝ }
     ensures refusal { λ r. ⌜ r ≡ laterLimit control s ⌝ }
 {
-    let n17 = base::first(refuses_17(s), 17, 0);
-    let n16 = base::first(refuses_16(s), 16, n17);
-    let n15 = base::first(refuses_15(control, s), 15, n16);
-    let n14 = base::first(refuses_14(s), 14, n15);
-    let n13 = base::first(refuses_13(s), 13, n14);
-    let n12 = base::first(refuses_12(s), 12, n13);
-    base::first(refuses_11(s), 11, n12)
+    let is_11 = refuses_11(s);
+    let is_12 = refuses_12(s);
+    let is_13 = refuses_13(s);
+    let is_14 = refuses_14(s);
+    let is_15 = refuses_15(control, s);
+    let is_16 = refuses_16(s);
+    let is_17 = refuses_17(s);
+    let n17 = base::first(is_17, 17, 0);
+    let n16 = base::first(is_16, 16, n17);
+    let n15 = base::first(is_15, 15, n16);
+    let n14 = base::first(is_14, 14, n15);
+    let n13 = base::first(is_13, 13, n14);
+    let n12 = base::first(is_12, 12, n13);
+    base::first(is_11, 11, n12)
 }
 
 // The lowest of 10 to 17 that holds under a control value, or 0: for any numbers.

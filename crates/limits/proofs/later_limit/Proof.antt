@@ -1,4 +1,4 @@
--- `limits::later_limit` meets its contract: the chain from its last link to its first.
+-- `limits::later_limit` meets its contract: each test once, and the chain of them.
 use Rattle.limits.specs.Limits.{laterLimit}
 use borrow.Author.Needs.{needs}
 use Rattle.limits.proofs.later_limit.Statement.{statement}
@@ -9,6 +9,12 @@ unfolding laterLimit
 later-limit-spec =
     tie.close
     (tie.spec
+    (λ c κs. tt)
+    (λ c κs. search needs)
+    (λ c κs. search needs)
+    (λ c κs. tt)
+    (λ c κs. tt)
+    (λ c κs. tt)
     (λ c κs. search needs)
     (λ c κs. tt)
     (λ c κs. tt)
@@ -17,10 +23,4 @@ later-limit-spec =
     (λ c κs. tt)
     (λ c κs. tt)
     (λ c κs. tt)
-    (λ c κs. search needs)
-    (λ c κs. tt)
-    (λ c κs. search needs)
-    (λ c κs. tt)
-    (λ c κs. tt)
-    (λ c κs. tt)
-    (λ c. rw (c .first7 .ensures, c .before .refuses-11 .ensures, c .before .before .first6 .ensures, c .before .before .before .refuses-12 .ensures, c .before .before .before .before .first5 .ensures, c .before .before .before .before .before .refuses-13 .ensures, c .before .before .before .before .before .before .first4 .ensures, c .before .before .before .before .before .before .before .refuses-14 .ensures, c .before .before .before .before .before .before .before .before .first3 .ensures, c .before .before .before .before .before .before .before .before .before .refuses-15 .ensures, c .before .before .before .before .before .before .before .before .before .before .first2 .ensures, c .before .before .before .before .before .before .before .before .before .before .before .refuses-16 .ensures, c .before .before .before .before .before .before .before .before .before .before .before .before .first .ensures, c .before .before .before .before .before .before .before .before .before .before .before .before .before .refuses-17 .ensures)))
+    (λ c. rw (c .first7 .ensures, c .before .first6 .ensures, c .before .before .first5 .ensures, c .before .before .before .first4 .ensures, c .before .before .before .before .first3 .ensures, c .before .before .before .before .before .first2 .ensures, c .before .before .before .before .before .before .first .ensures, c .before .before .before .before .before .before .before .refuses-17 .ensures, c .before .before .before .before .before .before .before .before .refuses-16 .ensures, c .before .before .before .before .before .before .before .before .before .refuses-15 .ensures, c .before .before .before .before .before .before .before .before .before .before .refuses-14 .ensures, c .before .before .before .before .before .before .before .before .before .before .before .refuses-13 .ensures, c .before .before .before .before .before .before .before .before .before .before .before .before .refuses-12 .ensures, c .before .before .before .before .before .before .before .before .before .before .before .before .before .refuses-11 .ensures)))
