@@ -30,12 +30,12 @@ pub draw-frame-spec : {M : Type 1} → statement M
 draw-frame-spec =
     tie.close
     (tie.spec
-    (λ c κs. search needs)
-    (λ c κs. search needs)
-    (λ c κs. search needs)
+    (λ c κs. tt)
+    (λ c κs. tt)
+    (λ c κs. tt)
     (λ c. search needs)
     returns
-    (λ c κs. search needs)
+    (λ c κs. tt)
     draw-rows-requires
     (λ c. search needs)
     returns-2)

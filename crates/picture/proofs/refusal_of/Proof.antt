@@ -3,7 +3,6 @@ use mathlib.Core.Bool.{false, not, _&&_, _||_}
 use mathlib.Core.Path.{_≡_, sym, _∙_}
 use native.Mathlib.Omega.{arith}
 use lib.Dec.{eqb}
-use borrow.Author.Needs.{needs}
 use Rattle.picture.specs.Picture.{refuses22}
 use Rattle.picture.specs.Plan.{Sized}
 use Rattle.picture.proofs.Segments.{visible-most}
@@ -41,11 +40,11 @@ pub refusal-of-spec : {M : Type 1} → statement M
 refusal-of-spec =
     tie.close
     (tie.spec
-    (λ c κs. search needs)
+    (λ c κs. tt)
     returns
     (λ c κs. let start = c .before .before .before .before .before in ready (start .args .r) (start .args .g) (start .pre) (begins c))
     (λ c. omega (arith, visible-most _ (plan (c .before))))
     (λ c κs. plan (c .before))
-    (λ c κs. search needs)
-    (λ c κs. search needs)
+    (λ c κs. tt)
+    (λ c κs. tt)
     returns-2)

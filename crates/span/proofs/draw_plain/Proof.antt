@@ -2,7 +2,6 @@
 use Prim.Native.Nat.{_+_, _*_, _-_, _≤_}
 use mathlib.Core.Path.{_≡_}
 use native.Mathlib.Omega.{arith}
-use borrow.Author.Needs.{needs}
 use Rattle.base.specs.Count.{run}
 use Rattle.span.specs.Span.{Painted, plainDot}
 use Rattle.span.proofs.Spans.{painted-none, painted-turn, painted-length}
@@ -51,7 +50,7 @@ draw-plain-spec =
     (λ c. let ok = c .before .before .before .pre in omega (arith, ok .small .bytes, ok .order, ok .last))
     loop-holds
     (λ c. let ok = c .before .before .before .before .before .before .pre in omega (arith, ok .small .places, ok .last))
-    (λ c κs. search needs)
+    (λ c κs. tt)
     (λ c κs. let ok = c .before .before .before .before .before .before .before .pre in omega (arith, ok .small .bytes, ok .last, painted-length (c .before .before .before .loop .inv .3)))
     (λ c. omega arith)
     (λ c. let ok = c .before .before .before .before .before .before .before .before .before .before .pre in omega (arith, ok .small .bytes, ok .last))

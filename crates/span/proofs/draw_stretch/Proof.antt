@@ -39,8 +39,8 @@ pub draw-stretch-spec : {M : Type 1} → statement M
 draw-stretch-spec =
     tie.close
     (tie.spec
-    (λ c κs. search needs)
-    (λ c κs. search needs)
+    (λ c κs. tt)
+    (λ c κs. tt)
     draw-plain-requires
     draw-under-requires
     draw-plain-requires-2

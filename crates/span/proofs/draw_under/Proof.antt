@@ -2,7 +2,6 @@
 use Prim.Native.Nat.{_+_, _*_, _-_, _≤_}
 use mathlib.Core.Path.{_≡_}
 use native.Mathlib.Omega.{arith}
-use borrow.Author.Needs.{needs}
 use Rattle.base.specs.Count.{run}
 use Rattle.pixel.specs.declared.Dot.{Dot}
 use Rattle.span.specs.Span.{Painted, dotThrough, coveredDot}
@@ -57,17 +56,17 @@ draw-under-spec =
     (tie.spec
     Inv-loop
     μ-loop
-    (λ c κs. search needs)
+    (λ c κs. tt)
     (λ c. let ok = c .before .before .before .pre in omega (arith, ok .small .bytes, ok .order, ok .last))
     (λ c. let ok = c .before .before .before .before .pre in omega (arith, ok .small .bytes, ok .order, ok .last))
     loop-holds
     (λ c. let ok = c .before .before .before .before .before .before .pre in omega (arith, ok .small .columns, ok .last))
     (λ c. let ok = c .before .before .before .before .before .before .pre in omega (arith, ok .small .columns, ok .last))
-    (λ c κs. search needs)
-    (λ c κs. search needs)
+    (λ c κs. tt)
+    (λ c κs. tt)
     (λ c. let ok = c .before .before .before .before .before .before .before .before .pre in omega (arith, ok .small .places, ok .last))
-    (λ c κs. search needs)
-    (λ c κs. search needs)
+    (λ c κs. tt)
+    (λ c κs. tt)
     (λ c κs. let ok = c .before .before .before .before .before .before .before .before .before .before .before .pre in omega (arith, ok .small .bytes, ok .last, painted-length (c .before .before .before .before .before .before .loop .inv .3)))
     (λ c. omega arith)
     (λ c. let ok = c .before .before .before .before .before .before .before .before .before .before .before .before .before .before .pre in omega (arith, ok .small .bytes, ok .last))

@@ -1,4 +1,5 @@
 -- `span::look` meets its contract: a pixel is a byte, and picks an entry. Assumes nothing.
+use native.Mathlib.Omega.{arith}
 use borrow.Author.Needs.{needs}
 use Rattle.span.proofs.look.Statement.{statement}
 use Rattle.span.proofs.look.Tie as tie
@@ -7,8 +8,8 @@ pub look-spec : {M : Type 1} → statement M
 look-spec =
     tie.close
     (tie.spec
-    (λ c κs. search needs)
-    (λ c. search needs)
-    (λ c. search needs)
+    (λ c κs. tt)
+    (λ c. omega arith)
+    (λ c. omega arith)
     (λ c. search needs)
     (λ c. rw (c .before .pixel-shown .ensures)))

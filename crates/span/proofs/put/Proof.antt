@@ -25,14 +25,14 @@ pub put-spec : {M : Type 1} → statement M
 put-spec =
     tie.close
     (tie.spec
-    (λ c κs. search needs)
-    (λ c κs. search needs)
-    (λ c κs. search needs)
+    (λ c κs. tt)
+    (λ c κs. tt)
+    (λ c κs. tt)
     (λ c. search needs)
-    (λ c. search needs)
+    (λ c. omega arith)
     (λ c. simp length-set (omega arith))
-    (λ c. search needs)
+    (λ c. omega arith)
     (λ c. simp length-set (omega arith))
-    (λ c κs. search needs)
+    (λ c κs. tt)
     (λ c. search needs)
     returns)

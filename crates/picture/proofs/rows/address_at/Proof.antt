@@ -1,7 +1,6 @@
 -- `picture::rows::address_at` meets its contract: the rows of a frame fit. Assumes nothing.
 use mathlib.Core.Path.{refl}
 use native.Mathlib.Omega.{arith}
-use borrow.Author.Needs.{needs}
 use Rattle.picture.specs.Plan.{addressIn}
 use Rattle.picture.proofs.Segments.{fits-rows, fits-address}
 use Rattle.picture.proofs.rows.address_at.Statement.{statement}
@@ -12,7 +11,7 @@ unfolding addressIn
 address-at-spec =
     tie.close
     (tie.spec
-    (λ c. search needs)
+    (λ c. omega arith)
     (λ c. let s = c .before .before in fits-rows (s .args .p) (s .pre .0) (s .args .v) (s .pre .1) _)
     (λ c. let s = c .before .before .before in fits-address (s .args .p) (s .pre .0) (s .args .v) (s .pre .1) _)
     (λ c. (refl, omega arith)))

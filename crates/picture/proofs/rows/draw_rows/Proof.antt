@@ -47,10 +47,10 @@ draw-rows-spec =
     (tie.spec
     Inv-loop
     μ-loop
-    (λ c κs. search needs)
+    (λ c κs. tt)
     loop-holds
     (λ c κs. search needs)
-    (λ c κs. search needs)
+    (λ c κs. tt)
     (λ c.
     let g = c .before .before .before .before .before in
     let start = g .before .before .before .before .before .before .before in

@@ -1,6 +1,5 @@
 -- `picture::rows::end_of` meets its contract: the last visible tick's address and request. Assumes nothing.
 use native.Mathlib.Omega.{arith}
-use borrow.Author.Needs.{needs}
 use Rattle.picture.specs.Plan.{endIn}
 use Rattle.picture.proofs.Segments.{visible-some}
 use Rattle.picture.proofs.rows.end_of.Statement.{statement}
@@ -12,8 +11,8 @@ end-of-spec =
     tie.close
     (tie.spec
     (λ c. let s = c .before in omega (arith, visible-some (s .args .p) (s .pre)))
-    (λ c κs. search needs)
+    (λ c κs. tt)
     (λ c κs. let s = c .before .before in (s .pre, omega (arith, visible-some (s .args .p) (s .pre))))
-    (λ c. search needs)
-    (λ c. search needs)
+    (λ c. omega arith)
+    (λ c. omega arith)
     (λ c. rw (c .before .before .address-at .ensures .0, c .before .before .before .is-transferring .ensures)))

@@ -14,9 +14,9 @@ first-place-spec =
     tie.close
     (tie.spec
     (λ c κs. search needs)
-    (λ c. search needs)
+    (λ c. omega arith)
     (λ c. omega (arith, fits (c .before .before)))
-    (λ c. search needs)
+    (λ c. omega arith)
     (λ c. omega (arith, fits (c .before .before .before)))
     (λ c. omega (arith, fits (c .before .before .before)))
     (λ c.

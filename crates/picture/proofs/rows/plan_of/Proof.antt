@@ -1,6 +1,5 @@
 -- `picture::rows::plan_of` meets its contract: 24 bits bound what is multiplied and added. Assumes nothing.
 use native.Mathlib.Omega.{arith}
-use borrow.Author.Needs.{needs}
 use Rattle.limits.specs.Limits.{Bounded}
 use Rattle.limits.proofs.Laws.{narrow}
 use Rattle.screen.proofs.Counts.{visible-fit}
@@ -16,10 +15,10 @@ unfolding planOf
 plan-of-spec =
     tie.close
     (tie.spec
-    (λ c κs. search needs)
-    (λ c κs. search needs)
+    (λ c κs. tt)
+    (λ c κs. tt)
     (λ c. omega (arith, visible-fit _ (bounded (c .before .before))))
     (λ c. omega (arith, bounded (c .before .before .before) .meminit .high, bounded (c .before .before .before) .transferdelay .high))
-    (λ c. search needs)
-    (λ c. search needs)
+    (λ c. omega arith)
+    (λ c. omega arith)
     (λ c. rw (c .before .before .before .before .screen-of .ensures, c .before .before .address-increment .ensures)))

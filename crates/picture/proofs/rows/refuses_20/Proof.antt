@@ -8,8 +8,8 @@ pub refuses-20-spec : {M : Type 1} → statement M
 refuses-20-spec =
     tie.close
     (tie.spec
-    (λ c κs. search needs)
-    (λ c κs. search needs)
+    (λ c κs. tt)
+    (λ c κs. tt)
     (λ c κs. search needs)
     (λ c. search refuses-read)
     (λ c. search refuses-unread))

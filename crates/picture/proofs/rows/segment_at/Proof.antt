@@ -10,16 +10,16 @@ pub segment-at-spec : {M : Type 1} → statement M
 segment-at-spec =
     tie.close
     (tie.spec
-    (λ c. search needs)
+    (λ c. omega arith)
     (λ c. let s = c .before .before in omega (arith, mod-lt (s .args .v) (s .pre .0 .display)))
-    (λ c. search needs)
+    (λ c. omega arith)
     (λ c. let s = c .before .before .before .before in omega (arith, mod-lt (s .args .v) (s .pre .0 .row)))
-    (λ c κs. search needs)
+    (λ c κs. tt)
     (λ c κs. search needs)
     (λ c. let s = c .before .before .before .before .before .before in omega (arith, s .pre .1, visible-most (s .args .p) (s .pre .0)))
     (λ c. let s = c .before .before .before .before .before .before in omega (arith, column-small (s .args .p) (s .pre .0) (s .args .v) (s .pre .1)))
     (λ c. let s = c .before .before .before .before .before .before in omega (arith, column-small (s .args .p) (s .pre .0) (s .args .v) (s .pre .1)))
-    (λ c. search needs)
+    (λ c. omega arith)
     (λ c. let s = c .before .before .before .before .before .before .before in omega (arith, line-small (s .args .p) (s .pre .0) (s .args .v) (s .pre .1)))
     (λ c. let s = c .before .before .before .before .before .before .before in omega (arith, ticks-small (s .args .p) (s .pre .0) (s .args .v) (s .pre .1) _ _ (c .before .before .choose .ensures)))
     (λ c.
