@@ -1,2 +1,2 @@
 -- Laws of what commands do to a machine.
-mod Running
+pub mod Running

@@ -9,13 +9,8 @@ use borrow.Author.Tests.{eq-eqb, ne-eqb}
 use Rattle.machine.specs.Rules.{advanced}
 use Rattle.machine.specs.declared.Machine.{Machine}
 use Rattle.machine.specs.declared.Advanced.{Advanced}
-use Rattle.acts.specs.Machines.{ranOn, ranOf, picturedOf}
+use Rattle.acts.specs.Machines.{ranOn, ranOf}
 use Rattle.acts.specs.declared.Ran.{Ran}
-use Rattle.acts.specs.declared.Pictured.{Pictured}
-use Rattle.generator.specs.Sound.{Sound}
-use Rattle.picture.specs.Picture.{drawnOf}
-use Rattle.picture.specs.declared.Drawn.{Drawn}
-use Rattle.picture.proofs.Laws.{drawn-sound}
 
 module _ (memory : List ℕ) (m : Machine) where
   pub ran-first : _≡_ {A = Ran} (record { done = 0; refusal = 0; machine = m }) (ranOf memory m 0)
@@ -50,12 +45,3 @@ module _ (memory : List ℕ) (m : Machine) where
         let once = refused-once z in
         let n : count ≡ suc done + (count - suc done) = omega arith in
         once ∙ sym (ap (ranOf memory m) n ∙ stays (suc done) (count - suc done) (λ k. z (ap (λ (r : Ran). r .refusal) once ∙ k)))
-
--- a whole picture
-module _ (m : Machine) (memory : List ℕ) (size : ℕ) (d : Drawn) (e : d ≡ drawnOf (m .regs) memory (m .generator) size) where
-  pub pictured : _≡_ {A = Pictured} (record { refusal = d .refusal; machine = record { regs = m .regs; generator = d .next } }) (picturedOf m memory size)
-  unfolding picturedOf
-  pictured = rw (← e)
-
-  pub pictured-sound : Sound (m .regs) (m .generator) → Sound (m .regs) (d .next)
-  pictured-sound z = rw e (drawn-sound (m .regs) memory (m .generator) z size)

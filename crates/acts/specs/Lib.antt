@@ -1,2 +1,2 @@
--- What the commands of a script do to a machine.
+-- Many ticks of a machine.
 pub mod Machines

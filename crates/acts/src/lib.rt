@@ -1,11 +1,8 @@
-// What commands do to a machine: a write, one tick, many ticks, and the checksums.
+// A machine's calls with the one condition beside each: the beginning, a write, one tick, and many.
 ghost use mathlib.Core.Path.{_≡_};
-ghost use Prim.Native.Nat.{_≤_};
 ghost use Rattle.generator.specs.Sound.{Sound};
 ghost use Rattle.machine.specs.Rules.{beginning, written, advanced};
-ghost use Rattle.acts.specs.Machines.{nineOf, ranOf, picturedOf, sizeOf};
-ghost use Rattle.picture.specs.Picture.{bufferOf};
-ghost use lib.ListN.{length};
+ghost use Rattle.acts.specs.Machines.{ranOf};
 use machine::Advanced;
 use machine::Machine;
 use machine::Written;
@@ -15,24 +12,6 @@ pub struct Ran {
     pub done: u32,
     pub refusal: u32,
     pub machine: Machine,
-}
-
-// A picture's refusal or 0, and the machine after it.
-pub struct Pictured {
-    pub refusal: u32,
-    pub machine: Machine,
-}
-
-// The width and height of a picture.
-pub struct Size {
-    pub width: u64,
-    pub height: u64,
-}
-
-// The refusal of the checksums' reads or 0, and the three words; 0 where refused.
-pub struct Checksums {
-    pub refusal: u32,
-    pub words: [u32; 3],
 }
 
 // The machine that every script begins with.
@@ -86,51 +65,5 @@ pub fn run(m: Machine, memory: &[u8], count: u32) -> Ran
         done,
         refusal: 0,
         machine: now,
-    }
-}
-
-// The nine checksum bytes, as three words.
-pub fn nine(m: Machine) -> Checksums
-    requires { ⌜ Sound (m .regs) (m .generator) ⌝ }
-    ensures nine { λ n. ⌜ n ≡ nineOf m ⌝ }
-{
-    let low = m.read(0x0C0);
-    let middle = m.read(0x0C1);
-    let high = m.read(0x0C2);
-    let later = base::first(middle.refusal == 0, high.refusal, middle.refusal);
-    let refusal = base::first(low.refusal == 0, later, low.refusal);
-    Checksums {
-        refusal,
-        words: [low.value, middle.value, high.value],
-    }
-}
-
-// A whole picture into a buffer.
-pub fn draw(m: Machine, memory: &[u8], buffer: &mut [u8]) -> Pictured
-    requires { ⌜ Sound (m .regs) (m .generator) ⌝ }
-    ensures pictured { λ p. ⌜ p ≡ picturedOf m (now (memory .entry)) (length (now (buffer .entry))) ⌝ }
-    ensures bytes { λ _. ⌜ now (buffer .exit) ≡ bufferOf (m .regs) (now (memory .entry)) (m .generator) (now (buffer .entry)) ⌝ }
-    ensures sound { λ p. ⌜ Sound (p .machine .regs) (p .machine .generator) ⌝ }
-{
-    let regs = m.regs;
-    let before = m.generator;
-    let drawn = picture::draw(regs, before, memory, buffer);
-    let generator = drawn.next;
-    Pictured {
-        refusal: drawn.refusal,
-        machine: Machine { regs, generator },
-    }
-}
-
-// The width and height of a machine's picture: four pixels to a unit of Display, and a line for two half lines of VDisplay.
-pub fn size_of(m: Machine) -> Size
-    ensures size { λ r. ⌜ r ≡ sizeOf m ⌝ }
-{
-    let regs = m.regs;
-    let params = regs.params;
-    let s = units::screen_of(params);
-    Size {
-        width: base::product(4, s.display.0),
-        height: s.vdisplay.0 / 2,
     }
 }

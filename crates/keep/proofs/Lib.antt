@@ -1,2 +1,2 @@
 -- Laws of the memory lent.
-mod Cases
+pub mod Cases

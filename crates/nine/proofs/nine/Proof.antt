@@ -1,8 +1,8 @@
--- `acts::nine` meets its contract: the three reads, one after the other.
-use Rattle.acts.specs.Machines.{nineOf}
+-- `nine::nine` meets its contract: the three reads, one after the other.
+use Rattle.nine.specs.Nine.{nineOf}
 use borrow.Author.Needs.{needs}
-use Rattle.acts.proofs.nine.Statement.{statement}
-use Rattle.acts.proofs.nine.Tie as tie
+use Rattle.nine.proofs.nine.Statement.{statement}
+use Rattle.nine.proofs.nine.Tie as tie
 
 read-requires : tie.Need-read-requires
 read-requires c κs = search needs

@@ -1,0 +1,22 @@
+-- `deeds::run` meets its contract: the machine's own ticks.
+use Rattle.deeds.proofs.Laws.{run-done}
+use borrow.Author.Needs.{needs}
+use Rattle.deeds.proofs.run.Statement.{statement}
+use Rattle.deeds.proofs.run.Tie as tie
+
+lent-requires : tie.Need-lent-requires
+lent-requires c κs = tt
+
+run-requires : tie.Need-run-requires
+run-requires c κs = search needs
+
+returns : tie.Need-returns
+returns c = let r = c .before .run .ensures in (run-done _ _ _ _ (c .before .before .lent .ensures) _ _ (r .0), r .1)
+
+pub run-spec : {M : Type 1} → statement M
+run-spec =
+    tie.close
+    (tie.spec
+    lent-requires
+    run-requires
+    returns)

@@ -1,0 +1,18 @@
+-- `deeds::write` meets its contract: the machine's own write.
+use Rattle.deeds.proofs.Laws.{write-done}
+use borrow.Author.Needs.{needs}
+use Rattle.deeds.proofs.write.Statement.{statement}
+use Rattle.deeds.proofs.write.Tie as tie
+
+write-requires : tie.Need-write-requires
+write-requires c κs = search needs
+
+returns : tie.Need-returns
+returns c = (write-done _ _ _ _ _ (c .before .write .ensures .0), c .before .write .ensures .1)
+
+pub write-spec : {M : Type 1} → statement M
+write-spec =
+    tie.close
+    (tie.spec
+    write-requires
+    returns)

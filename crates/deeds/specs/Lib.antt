@@ -1,0 +1,2 @@
+-- What good commands do.
+pub mod Deeds

@@ -1,0 +1,150 @@
+// What a good command does (console.md): to the machine, to the memory lent and to the picture.
+ghost use mathlib.Core.Path.{_≡_};
+ghost use mathlib.Core.List.{_++_};
+ghost use Prim.Native.Nat.{_≤_};
+ghost use lib.ListN.{length, take, drop};
+ghost use Rattle.generator.specs.Sound.{Sound};
+ghost use Rattle.picture.specs.Picture.{bufferOf};
+ghost use Rattle.keep.specs.Keep.{keptMemory};
+ghost use Rattle.deeds.specs.Deeds.{within, ticksOf, writeDone, runDone, drawDone, doneOf, pictureAfter, sizeOf};
+use command::Command;
+use machine::Machine;
+
+// Its refusal or 0, the ticks that it has run, the bytes of memory lent from then on, and the machine after it.
+pub struct Done {
+    pub refusal: u32,
+    pub ticks: u32,
+    pub memory: u32,
+    pub machine: Machine,
+}
+
+// The width and height of a picture.
+pub struct Size {
+    pub width: u64,
+    pub height: u64,
+}
+
+// The ticks that `tick` or `run` asks for: `tick` alone is one.
+pub fn ticks_of(c: Command) -> u32
+    ensures ticks { λ r. ⌜ r ≡ ticksOf c ⌝ }
+{
+    let left = c.left;
+    let values = left.values;
+    base::first(left.count == 0, 1, values[0])
+}
+
+// `write ADDRESS VALUE`.
+fn write(m: Machine, lent: u32, address: u32, value: u32) -> Done
+    requires { ⌜ Sound (m .regs) (m .generator) ⌝ }
+    ensures done { λ d. ⌜ d ≡ writeDone m lent address value ⌝ }
+    ensures sound { λ d. ⌜ Sound (d .machine .regs) (d .machine .generator) ⌝ }
+{
+    let w = acts::write(m, address, value);
+    let machine = w.machine;
+    Done {
+        refusal: w.refusal,
+        ticks: 0,
+        memory: lent,
+        machine,
+    }
+}
+
+// `tick COUNT` or `run COUNT`.
+fn run(m: Machine, lent: u32, memory: &[u8], count: u32) -> Done
+    requires { ⌜ Sound (m .regs) (m .generator) ⌝ }
+    ensures done { λ d. ⌜ d ≡ runDone m lent (take lent (now (memory .entry))) count ⌝ }
+    ensures sound { λ d. ⌜ Sound (d .machine .regs) (d .machine .generator) ⌝ }
+{
+    let ran = acts::run(m, text::bytes::lent(memory, lent as usize), count);
+    let machine = ran.machine;
+    Done {
+        refusal: ran.refusal,
+        ticks: ran.done,
+        memory: lent,
+        machine,
+    }
+}
+
+// So many bytes as are asked for and are there.
+fn within(wanted: usize, room: usize) -> usize
+    ensures count { λ r. ⌜ r ≡ within wanted room ⌝ }
+    ensures bound { λ r. ⌜ r ≤ room ⌝ }
+{
+    if wanted <= room {
+        return wanted;
+    }
+    room
+}
+
+// A picture into a buffer, with the bytes lent.
+fn draw(m: Machine, lent: u32, memory: &[u8], buffer: &mut [u8]) -> Done
+    requires { ⌜ Sound (m .regs) (m .generator) ⌝ }
+    ensures done { λ d. ⌜ d ≡ drawDone m lent (take lent (now (memory .entry))) (length (now (buffer .entry))) ⌝ }
+    ensures bytes { λ _. ⌜ now (buffer .exit) ≡ bufferOf (m .regs) (take lent (now (memory .entry))) (m .generator) (now (buffer .entry)) ⌝ }
+    ensures sound { λ d. ⌜ Sound (d .machine .regs) (d .machine .generator) ⌝ }
+{
+    let drawn = picture::draw_machine(m, text::bytes::lent(memory, lent as usize), buffer);
+    let machine = drawn.machine;
+    Done {
+        refusal: drawn.refusal,
+        ticks: 0,
+        memory: lent,
+        machine,
+    }
+}
+
+// `picture LENGTH`, into the first bytes of the picture's room.
+fn drawn(m: Machine, lent: u32, memory: &[u8], picture: &mut [u8], wanted: u32) -> Done
+    requires { ⌜ Sound (m .regs) (m .generator) ⌝ }
+    ensures done { λ d. ⌜ d ≡ drawDone m lent (take lent (now (memory .entry))) (within wanted (length (now (picture .entry)))) ⌝ }
+    ensures bytes { λ _. ⌜
+        now (picture .exit) ≡
+        bufferOf (m .regs) (take lent (now (memory .entry))) (m .generator) (take (within wanted (length (now (picture .entry)))) (now (picture .entry)))
+        ++ drop (within wanted (length (now (picture .entry)))) (now (picture .entry)) ⌝ }
+    ensures sound { λ d. ⌜ Sound (d .machine .regs) (d .machine .generator) ⌝ }
+{
+    let size = within(wanted as usize, picture.len());
+    draw(m, lent, memory, &mut picture[..size])
+}
+
+// A good command: what it does to the machine, the memory and the picture. One that only asks does nothing.
+pub fn act(c: Command, m: Machine, lent: u32, memory: &mut [u8], picture: &mut [u8]) -> Done
+    requires { ⌜ Sound (m .regs) (m .generator) ⌝ }
+    ensures done { λ d. ⌜ d ≡ doneOf c m lent (now (memory .entry)) (length (now (picture .entry))) ⌝ }
+    ensures memory { λ _. ⌜ now (memory .exit) ≡ keptMemory c (now (memory .entry)) ⌝ }
+    ensures picture { λ _. ⌜ now (picture .exit) ≡ pictureAfter c m lent (now (memory .entry)) (now (picture .entry)) ⌝ }
+    ensures sound { λ d. ⌜ Sound (d .machine .regs) (d .machine .generator) ⌝ }
+{
+    let left = c.left;
+    let values = left.values;
+    let kind = command::kind_of(c.name);
+    if kind == 0 {
+        return write(m, lent, values[0], values[1]);
+    }
+    if kind == 2 {
+        return run(m, lent, memory, ticks_of(c));
+    }
+    if kind == 3 {
+        return drawn(m, lent, memory, picture, values[0]);
+    }
+    let bytes = keep::kept(c, memory, lent);
+    Done {
+        refusal: 0,
+        ticks: 0,
+        memory: bytes,
+        machine: m,
+    }
+}
+
+// The width and height of a machine's picture: four pixels to a unit of Display, and a line for two half lines of VDisplay.
+pub fn size_of(m: Machine) -> Size
+    ensures size { λ r. ⌜ r ≡ sizeOf m ⌝ }
+{
+    let regs = m.regs;
+    let params = regs.params;
+    let s = units::screen_of(params);
+    Size {
+        width: base::product(4, s.display.0),
+        height: s.vdisplay.0 / 2,
+    }
+}

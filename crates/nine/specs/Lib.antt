@@ -1,0 +1,2 @@
+-- The nine checksum bytes.
+pub mod Nine
