@@ -60,7 +60,7 @@ fn read(p: Page, m: Machine, out: &mut [u8], address: u32) -> Finding
 fn nine(p: Page, m: Machine, out: &mut [u8]) -> Finding
     requires { ⌜ Sound (m .regs) (m .generator) ⌝ }
 {
-    let sums = acts::nine(m);
+    let sums = nine::nine(m);
     let words = sums.words;
     let low = text::put_hex(out, p.waiting, words[0]);
     let middle = phrases::put_colour(out, low, words[1]);

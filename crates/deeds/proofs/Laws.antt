@@ -78,3 +78,11 @@ module _ (c : Command) (m : Machine) (lent : ℕ) (memory picture : List ℕ) wh
     pub does-keep : (k ≡ 0 → ⊥) → (k ≡ 2 → ⊥) → (k ≡ 3 → ⊥) → (lends : ℕ) (bytes : List ℕ) → lends ≡ keptLength c lent → bytes ≡ keptMemory c memory → Does (record { refusal = 0; ticks = 0; memory = lends; machine = m }) bytes picture
     unfolding doneOf pictureAfter
     does-keep n0 n2 n3 lends bytes e b = (rw (← ek, ne-eqb k 0 n0, ne-eqb k 2 n2, ne-eqb k 3 n3, e) refl, (b, rw (← ek, ne-eqb k 3 n3) refl))
+
+    -- ticks that are run another way
+    pub does-tick : k ≡ 2 → (doneOf c m lent memory (length picture) ≡ runDone m lent (take lent memory) (ticksOf c)) × ((memory ≡ keptMemory c memory) × (picture ≡ pictureAfter c m lent memory picture))
+    does-tick h = let e = does-run h (ticksOf c) refl _ refl in (sym (e .0), e .1)
+
+pub run-machine : (m : Machine) (lent : ℕ) (bytes : List ℕ) (count : ℕ) → (runDone m lent bytes count .machine ≡ ranOf bytes m count .machine) × (runDone m lent bytes count .memory ≡ lent)
+unfolding runDone
+run-machine m lent bytes count = (refl, refl)

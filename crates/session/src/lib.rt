@@ -1,7 +1,14 @@
 // A session over a script (console.md), in one of three forms: answers, a waveform of the ticks, or the last picture.
 ghost use Prim.Native.Nat.{_≤_};
+ghost use mathlib.Core.Path.{_≡_};
+ghost use lib.ListN.{length, take};
 ghost use Rattle.generator.specs.Sound.{Sound};
+ghost use Rattle.acts.specs.Machines.{ranOf};
+ghost use Rattle.keep.specs.Keep.{keptMemory};
+ghost use Rattle.deeds.specs.Deeds.{ticksOf, doneOf, pictureAfter};
+ghost use Rattle.session.specs.Lines.{lineDone, lineMemory, linePicture};
 use command::Command;
+use deeds::Done;
 use machine::Machine;
 use report::Page;
 use says::ANSWERS;
@@ -13,6 +20,12 @@ struct Desk {
     machine: Machine,
     memory: u32,
     lines: u64,
+    page: Page,
+}
+
+// What ticks that were shown leave.
+struct Shown {
+    machine: Machine,
     page: Page,
 }
 
@@ -41,7 +54,7 @@ fn picture_room() -> [u8; PICTURE_BYTES] {
 }
 
 // One tick's signals, or its refusal.
-fn told(p: Page, out: &mut [u8], line: u64, refusal: u32, s: generator::Signals) -> Page {
+fn told(p: Page, out: &mut [u8; ROOM], line: u64, refusal: u32, s: generator::Signals) -> Page {
     let page = report::space(p, out);
     if refusal == 0 {
         return report::tick(page, out, s);
@@ -49,32 +62,38 @@ fn told(p: Page, out: &mut [u8], line: u64, refusal: u32, s: generator::Signals)
     report::refuse(page, out, line, refusal)
 }
 
-// Ticks that are shown, each as the form shows it.
-fn ticks(d: Desk, memory: &[u8], out: &mut [u8], count: u32) -> Desk
-    requires { ⌜ Sound (d .machine .regs) (d .machine .generator) ⌝ }
+// Ticks that are shown, each as the form shows it; they end where one is refused.
+fn ticks(
+    m: Machine,
+    p: Page,
+    memory: &[u8],
+    out: &mut [u8; ROOM],
+    line: u64,
+    count: u32,
+) -> Shown
+    requires { ⌜ Sound (m .regs) (m .generator) ⌝ }
+    ensures machine { λ r. ⌜ r .machine ≡ ranOf (now (memory .entry)) m count .machine ⌝ }
     ensures sound { λ r. ⌜ Sound (r .machine .regs) (r .machine .generator) ⌝ }
 {
-    let mut m = d.machine;
-    let mut page = d.page;
-    let mut left = count;
-    while 0 < left {
-        let next = acts::tick(m, memory);
+    let mut machine = m;
+    let mut page = p;
+    let mut done: u32 = 0;
+    while done < count {
+        let next = acts::tick(machine, memory);
         let refusal = next.refusal;
         let signals = next.signals;
-        m = next.machine;
-        page = told(page, out, d.lines, refusal, signals);
-        left = base::first(refusal == 0, left - 1, 0);
+        machine = next.machine;
+        page = told(page, out, line, refusal, signals);
+        if refusal != 0 {
+            return Shown { machine, page };
+        }
+        done += 1;
     }
-    Desk {
-        machine: m,
-        memory: d.memory,
-        lines: d.lines,
-        page,
-    }
+    Shown { machine, page }
 }
 
 // What a run that is not shown says: in answers how many ticks it has done. Its line is kept only there.
-fn ran(p: Page, out: &mut [u8], line: u64, done: u32, refusal: u32) -> Page {
+fn ran(p: Page, out: &mut [u8; ROOM], line: u64, done: u32, refusal: u32) -> Page {
     let end = text::put_count(out, p.waiting, b"ran ", done as u64);
     let waiting = base::choose(p.form == ANSWERS, end as u64, p.waiting as u64);
     let page = report::turn(p, waiting as usize);
@@ -84,16 +103,20 @@ fn ran(p: Page, out: &mut [u8], line: u64, done: u32, refusal: u32) -> Page {
     report::refuse(page, out, line, refusal)
 }
 
-// Ticks that are not shown.
-fn run(d: Desk, memory: &[u8], out: &mut [u8], count: u32) -> Desk
+// `tick` or `run`, its ticks shown.
+fn timed(d: Desk, c: Command, memory: &[u8; MEMORY], out: &mut [u8; ROOM]) -> Desk
     requires { ⌜ Sound (d .machine .regs) (d .machine .generator) ⌝ }
+    ensures machine { λ r. ⌜ r .machine ≡ ranOf (take (d .memory) (now (memory .entry))) (d .machine) (ticksOf c) .machine ⌝ }
+    ensures lent { λ r. ⌜ r .memory ≡ d .memory ⌝ }
     ensures sound { λ r. ⌜ Sound (r .machine .regs) (r .machine .generator) ⌝ }
 {
     let m = d.machine;
     let before = d.page;
-    let done = acts::run(m, memory, count);
-    let machine = done.machine;
-    let page = ran(before, out, d.lines, done.done, done.refusal);
+    let count = deeds::ticks_of(c);
+    let lent = text::bytes::lent(memory, d.memory as usize);
+    let shown = ticks(m, before, lent, out, d.lines, count);
+    let machine = shown.machine;
+    let page = shown.page;
     Desk {
         machine,
         memory: d.memory,
@@ -102,91 +125,50 @@ fn run(d: Desk, memory: &[u8], out: &mut [u8], count: u32) -> Desk
     }
 }
 
-// `tick` or `run`: a waveform shows both, answers the first, a picture none. `tick` alone is one.
-fn timed(d: Desk, c: Command, memory: &[u8], out: &mut [u8]) -> Desk
-    requires { ⌜ Sound (d .machine .regs) (d .machine .generator) ⌝ }
-    ensures sound { λ r. ⌜ Sound (r .machine .regs) (r .machine .generator) ⌝ }
-{
-    let left = c.left;
-    let values = left.values;
-    let page = d.page;
-    let count = base::first(left.count == 0, 1, values[0]);
-    let lent = text::bytes::lent(memory, d.memory as usize);
-    let line_each = (page.form == ANSWERS) & (c.name == command::TICK);
-    if (page.form == WAVE) | line_each {
-        return ticks(d, lent, out, count);
-    }
-    run(d, lent, out, count)
-}
-
-// `picture LENGTH`, into a buffer of that length. The size of a picture that was drawn is kept.
-fn pictured(d: Desk, memory: &[u8], buffer: &mut [u8], out: &mut [u8]) -> Desk
-    requires { ⌜ Sound (d .machine .regs) (d .machine .generator) ⌝ }
-    ensures sound { λ r. ⌜ Sound (r .machine .regs) (r .machine .generator) ⌝ }
-{
-    let m = d.machine;
-    let mut kept = d.page;
-    let drawn = acts::draw(m, memory, buffer);
-    let machine = drawn.machine;
-    let refusal = drawn.refusal;
-    let size = acts::size_of(machine);
+// `picture LENGTH`: the size of a picture that was drawn is kept.
+fn pictured(
+    p: Page,
+    m: Machine,
+    picture: &[u8; PICTURE_BYTES],
+    out: &mut [u8; ROOM],
+    line: u64,
+    refusal: u32,
+    length: u32,
+) -> Page {
+    let mut kept = p;
+    let size = deeds::size_of(m);
     kept.width = base::choose(refusal == 0, size.width, kept.width);
     kept.height = base::choose(refusal == 0, size.height, kept.height);
-    let page = asks::shown(kept, out, d.lines, refusal, buffer);
-    Desk {
-        machine,
-        memory: d.memory,
-        lines: d.lines,
-        page,
-    }
+    let bytes = text::bytes::lent(picture, length as usize);
+    asks::shown(kept, out, line, refusal, bytes)
 }
 
-// `picture LENGTH`.
-fn drawn(d: Desk, memory: &[u8], picture: &mut [u8], out: &mut [u8], length: u32) -> Desk
-    requires { ⌜ Sound (d .machine .regs) (d .machine .generator) ⌝ }
-    ensures sound { λ r. ⌜ Sound (r .machine .regs) (r .machine .generator) ⌝ }
-{
-    let size = length as usize;
-    let lent = text::bytes::lent(memory, d.memory as usize);
-    if picture.len() < size {
-        return d;
+// What a command that has done something says.
+fn said(
+    p: Page,
+    c: Command,
+    done: Done,
+    picture: &[u8; PICTURE_BYTES],
+    out: &mut [u8; ROOM],
+    line: u64,
+) -> Page {
+    let kind = command::kind_of(c.name);
+    let refusal = done.refusal;
+    if kind == 2 {
+        return ran(p, out, line, done.ticks, refusal);
     }
-    pictured(d, lent, &mut picture[..size], out)
+    if kind == 3 {
+        let machine = done.machine;
+        let left = c.left;
+        let values = left.values;
+        return pictured(p, machine, picture, out, line, refusal, values[0]);
+    }
+    report::verdict(p, out, line, refusal)
 }
 
-// `write ADDRESS VALUE`.
-fn write(d: Desk, out: &mut [u8], address: u32, value: u32) -> Desk
-    requires { ⌜ Sound (d .machine .regs) (d .machine .generator) ⌝ }
-    ensures sound { λ r. ⌜ Sound (r .machine .regs) (r .machine .generator) ⌝ }
-{
-    let m = d.machine;
-    let before = d.page;
-    let w = acts::write(m, address, value);
-    let machine = w.machine;
-    let page = report::verdict(before, out, d.lines, w.refusal);
-    Desk {
-        machine,
-        memory: d.memory,
-        lines: d.lines,
-        page,
-    }
-}
-
-// `memory`, `poke` or `fill`.
-fn keep(d: Desk, c: Command, memory: &mut [u8], out: &mut [u8]) -> Desk
-    requires { ⌜ Sound (d .machine .regs) (d .machine .generator) ⌝ }
-    ensures sound { λ r. ⌜ Sound (r .machine .regs) (r .machine .generator) ⌝ }
-{
-    let machine = d.machine;
-    let before = d.page;
-    let lent = keep::kept(c, memory, d.memory);
-    let page = report::verdict(before, out, d.lines, 0);
-    Desk {
-        machine,
-        memory: lent,
-        lines: d.lines,
-        page,
-    }
+// A waveform shows the ticks of `tick` and of `run`, answers those of `tick`, a picture none.
+fn is_shown(form: u32, name: u32) -> bool {
+    (form == WAVE) | ((form == ANSWERS) & (name == command::TICK))
 }
 
 // A good command.
@@ -198,37 +180,35 @@ fn acted(
     out: &mut [u8; ROOM],
 ) -> Desk
     requires { ⌜ Sound (d .machine .regs) (d .machine .generator) ⌝ }
+    ensures machine { λ r. ⌜ r .machine ≡ doneOf c (d .machine) (d .memory) (now (memory .entry)) (length (now (picture .entry))) .machine ⌝ }
+    ensures lent { λ r. ⌜ r .memory ≡ doneOf c (d .machine) (d .memory) (now (memory .entry)) (length (now (picture .entry))) .memory ⌝ }
+    ensures memory { λ _. ⌜ now (memory .exit) ≡ keptMemory c (now (memory .entry)) ⌝ }
+    ensures picture { λ _. ⌜ now (picture .exit) ≡ pictureAfter c (d .machine) (d .memory) (now (memory .entry)) (now (picture .entry)) ⌝ }
     ensures sound { λ r. ⌜ Sound (r .machine .regs) (r .machine .generator) ⌝ }
 {
-    let left = c.left;
-    let values = left.values;
+    let m = d.machine;
+    let before = d.page;
     let kind = command::kind_of(c.name);
-    if kind == 0 {
-        return write(d, out, values[0], values[1]);
-    }
-    if kind == 1 {
-        return keep(d, c, memory, out);
-    }
-    if kind == 2 {
+    let shown = base::first(is_shown(before.form, c.name), kind, 0);
+    if shown == 2 {
         return timed(d, c, memory, out);
     }
-    if kind == 3 {
-        return drawn(d, memory, picture, out, values[0]);
+    let done = deeds::act(c, m, d.memory, memory, picture);
+    let machine = done.machine;
+    let lent = done.memory;
+    if kind == 4 {
+        let page = asks::asked(before, c, machine, out, d.lines);
+        return Desk { machine, memory: lent, lines: d.lines, page };
     }
-    let machine = d.machine;
-    let before = d.page;
-    let page = asks::asked(before, c, machine, out, d.lines);
-    Desk {
-        machine,
-        memory: d.memory,
-        lines: d.lines,
-        page,
-    }
+    let page = said(before, c, done, picture, out, d.lines);
+    Desk { machine, memory: lent, lines: d.lines, page }
 }
 
 // The desk at the next line.
-fn next_line(d: Desk, out: &[u8]) -> Desk
+fn next_line(d: Desk, out: &[u8; ROOM]) -> Desk
     requires { ⌜ Sound (d .machine .regs) (d .machine .generator) ⌝ }
+    ensures machine { λ r. ⌜ r .machine ≡ d .machine ⌝ }
+    ensures lent { λ r. ⌜ r .memory ≡ d .memory ⌝ }
     ensures sound { λ r. ⌜ Sound (r .machine .regs) (r .machine .generator) ⌝ }
 {
     let machine = d.machine;
@@ -252,6 +232,10 @@ fn answered(
     out: &mut [u8; ROOM],
 ) -> Desk
     requires { ⌜ Sound (d .machine .regs) (d .machine .generator) ⌝ }
+    ensures machine { λ r. ⌜ r .machine ≡ lineDone (now (line .entry)) (d .machine) (d .memory) (now (memory .entry)) (length (now (picture .entry))) .machine ⌝ }
+    ensures lent { λ r. ⌜ r .memory ≡ lineDone (now (line .entry)) (d .machine) (d .memory) (now (memory .entry)) (length (now (picture .entry))) .memory ⌝ }
+    ensures memory { λ _. ⌜ now (memory .exit) ≡ lineMemory (now (line .entry)) (d .memory) (now (memory .entry)) ⌝ }
+    ensures picture { λ _. ⌜ now (picture .exit) ≡ linePicture (now (line .entry)) (d .machine) (d .memory) (now (memory .entry)) (now (picture .entry)) ⌝ }
     ensures sound { λ r. ⌜ Sound (r .machine .regs) (r .machine .generator) ⌝ }
 {
     let next = next_line(d, out);

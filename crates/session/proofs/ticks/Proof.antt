@@ -1,52 +1,44 @@
--- `session::ticks` is safe, ends and keeps the one condition: each turn leaves fewer ticks.
-use Prim.Native.Nat.{ℕ, _-_, _≤_, _<_}
-use mathlib.Core.Bool.{Bool, true, false, cond}
-use mathlib.Core.Path.{_≡_, refl}
-use lib.Dec.{eqb}
-use lib.ListN.{length}
+-- `session::ticks` meets its contract: each tick is one more of the run, and keeps the one condition.
+use Prim.Native.Nat.{_≤_, _-_}
+use mathlib.Core.Path.{_≡_, ap, _∙_}
 use Rattle.generator.specs.Sound.{Sound}
+use Rattle.acts.specs.Machines.{ranOf}
+use Rattle.acts.specs.declared.Ran.{Ran}
+use Rattle.acts.proofs.Running.{ran-first, ran-next, ran-refused}
 use native.Mathlib.Omega.{arith}
 use borrow.Author.Needs.{needs}
 use Rattle.session.proofs.ticks.Statement.{statement}
 use Rattle.session.proofs.ticks.Tie as tie
 
--- a turn leaves fewer ticks, refused or not
-fewer : (on : Bool) (left next : ℕ) → 0 < left → next ≡ cond on (left - 1) 0 → next < left
-fewer true left next h e = omega arith
-fewer false left next h e = omega arith
-
 abbrev Inv-loop : tie.InvT-loop
-Inv-loop d memory out₀ count m₀ page₀ left₀ out m page left = ((left ≤ count) × (length out ≡ length out₀)) × (Sound (m .regs) (m .generator))
+Inv-loop memory out₀ line count machine₀ page₀ done₀ out machine page done = ((done ≤ count) × (_≡_ {A = Ran} (record { done = done; refusal = 0; machine = machine }) (ranOf memory machine₀ done))) × (Sound (machine .regs) (machine .generator))
 
 abbrev μ-loop : tie.MeasureT-loop
-μ-loop d memory out₀ count m₀ page₀ left₀ out m page left = left
+μ-loop memory out₀ line count machine₀ page₀ done₀ out machine page done = count - done
 
 loop-holds : tie.Need-loop-holds Inv-loop μ-loop
-loop-holds c = ((omega arith, refl), c .before .before .before .before .pre)
+loop-holds c = ((omega arith, ran-first _ _), c .before .pre)
 
 tick-requires : tie.Need-tick-requires Inv-loop μ-loop
-tick-requires c κs = search needs
+tick-requires c κs = c .before .loop .inv .1
 
 told-requires : tie.Need-told-requires Inv-loop μ-loop
-told-requires c κs = search needs
-
-sub-first : tie.Need-sub-first Inv-loop μ-loop
-sub-first c = search needs
-
-first-requires : tie.Need-first-requires Inv-loop μ-loop
-first-requires c κs = search needs
-
-loop-less : tie.Need-loop-less Inv-loop μ-loop
-loop-less c = fewer (eqb (c .before .before .before .before .before .before .before .tick .result .refusal) 0) _ _ (c .before .before .before .before .before .before .before .before .loop-test .taken) (c .first .ensures)
-
-loop-again : tie.Need-loop-again Inv-loop μ-loop
-loop-again c = ((omega (arith, fewer (eqb (c .before .before .before .before .before .before .before .tick .result .refusal) 0) _ _ (c .before .before .before .before .before .before .before .before .loop-test .taken) (c .first .ensures)), search needs), c .before .before .before .before .before .before .before .tick .ensures .1)
-
-same-length : tie.Need-same-length Inv-loop μ-loop
-same-length c = search needs
+told-requires c κs = tt
 
 returns : tie.Need-returns Inv-loop μ-loop
-returns c = search needs
+returns c = let l = c .before .before .before .before .before .before .before .loop in let t = c .before .before .before .before .before .tick in (ap (λ (r : Ran). r .machine) (ran-refused _ _ _ _ _ (l .inv .0 .1) (t .ensures .0) (c .if1 .taken) _ (c .before .before .before .before .before .before .loop-test .taken)), t .ensures .1)
+
+add-done : tie.Need-add-done Inv-loop μ-loop
+add-done c = search needs
+
+loop-less : tie.Need-loop-less Inv-loop μ-loop
+loop-less c = search needs
+
+loop-again : tie.Need-loop-again Inv-loop μ-loop
+loop-again c = let l = c .before .before .before .before .before .before .before .loop in let t = c .before .before .before .before .before .tick in ((omega arith, ran-next _ _ _ _ _ (l .inv .0 .1) (t .ensures .0) (c .if1 .left)), t .ensures .1)
+
+returns-2 : tie.Need-returns-2 Inv-loop μ-loop
+returns-2 c = let e : c .before .loop .done ≡ c .before .before .before .args .count = omega arith in (ap (λ (r : Ran). r .machine) (c .before .loop .inv .0 .1 ∙ ap (ranOf _ _) e), c .before .loop .inv .1)
 
 pub ticks-spec : {M : Type 1} → statement M
 ticks-spec =
@@ -57,9 +49,8 @@ ticks-spec =
     loop-holds
     tick-requires
     told-requires
-    sub-first
-    first-requires
+    returns
+    add-done
     loop-less
     loop-again
-    same-length
-    returns)
+    returns-2)
