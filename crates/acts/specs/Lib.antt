@@ -1,2 +1,2 @@
--- Many ticks of a machine.
+-- Many ticks of a machine, and its picture's size.
 pub mod Machines

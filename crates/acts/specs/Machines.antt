@@ -1,11 +1,14 @@
--- Many ticks of a machine (console.md, `run`). Assumes nothing.
-use Prim.Native.Nat.{ℕ, zero, suc, _+_}
+-- Many ticks of a machine (console.md, `run`), and its picture's size. Assumes nothing.
+use Prim.Native.Nat.{ℕ, zero, suc, _+_, _*_, _/_}
 use mathlib.Core.Bool.{cond}
 use mathlib.Core.List.{List}
 use lib.Dec.{eqb}
+use Rattle.base.specs.Sum.{capped}
+use Rattle.generator.specs.Rows.{screen}
 use Rattle.machine.specs.Rules.{advanced}
 use Rattle.machine.specs.declared.Machine.{Machine}
 use Rattle.acts.specs.declared.Ran.{Ran}
+use Rattle.acts.specs.declared.Size.{Size}
 
 -- one tick more of a run, unless one was refused; a refused tick is not done
 unfoldable pub ranOn : List ℕ → Ran → Ran
@@ -22,3 +25,7 @@ ranOn memory r =
 unfoldable pub ranOf : List ℕ → Machine → ℕ → Ran
 ranOf memory m zero = record { done = 0; refusal = 0; machine = m }
 ranOf memory m (suc n) = ranOn memory (ranOf memory m n)
+
+-- a picture's width and height: 4 x Display, VDisplay / 2
+abbrev pub sizeOf : Machine → Size
+sizeOf m = record { width = capped (4 * screen (m .regs) .display .0); height = screen (m .regs) .vdisplay .0 / 2 }

@@ -1,8 +1,8 @@
-// A machine's calls with the one condition beside each: the beginning, a write, one tick, and many.
+// A machine's calls with the one condition beside each: the beginning, a write, one tick, and many; and its picture's size.
 ghost use mathlib.Core.Path.{_≡_};
 ghost use Rattle.generator.specs.Sound.{Sound};
 ghost use Rattle.machine.specs.Rules.{beginning, written, advanced};
-ghost use Rattle.acts.specs.Machines.{ranOf};
+ghost use Rattle.acts.specs.Machines.{ranOf, sizeOf};
 use machine::Advanced;
 use machine::Machine;
 use machine::Written;
@@ -12,6 +12,12 @@ pub struct Ran {
     pub done: u32,
     pub refusal: u32,
     pub machine: Machine,
+}
+
+// The width and height of a picture.
+pub struct Size {
+    pub width: u64,
+    pub height: u64,
 }
 
 // The machine that every script begins with.
@@ -65,5 +71,18 @@ pub fn run(m: Machine, memory: &[u8], count: u32) -> Ran
         done,
         refusal: 0,
         machine: now,
+    }
+}
+
+// The width and height of a machine's picture: four pixels to a unit of Display, and a line for two half lines of VDisplay.
+pub fn size_of(m: Machine) -> Size
+    ensures size { λ r. ⌜ r ≡ sizeOf m ⌝ }
+{
+    let regs = m.regs;
+    let params = regs.params;
+    let s = units::screen_of(params);
+    Size {
+        width: base::product(4, s.display.0),
+        height: s.vdisplay.0 / 2,
     }
 }

@@ -1,12 +1,10 @@
 -- What a good command does (console.md). c: the command, m: the machine, lent: how many bytes of `memory` are lent, room: how many bytes a
 -- picture has room for. Assumes nothing.
-use Prim.Native.Nat.{ℕ, _*_, _/_}
+use Prim.Native.Nat.{ℕ}
 use mathlib.Core.Bool.{cond}
 use mathlib.Core.List.{List, _++_}
 use lib.Dec.{ltb, leb, eqb}
 use lib.ListN.{length, getD, take, drop}
-use Rattle.base.specs.Sum.{capped}
-use Rattle.generator.specs.Rows.{screen}
 use Rattle.machine.specs.Rules.{written}
 use Rattle.machine.specs.declared.Machine.{Machine}
 use Rattle.picture.specs.Picture.{bufferOf}
@@ -16,7 +14,6 @@ use Rattle.command.specs.Commands.{kinds}
 use Rattle.command.specs.declared.Command.{Command}
 use Rattle.keep.specs.Keep.{number, keptLength}
 use Rattle.deeds.specs.declared.Done.{Done}
-use Rattle.deeds.specs.declared.Size.{Size}
 
 -- what it does, by its name
 abbrev pub kindOf : ℕ → ℕ
@@ -60,7 +57,3 @@ pictureAfter c m lent memory picture =
     (bufferOf (m .regs) (take lent memory) (m .generator) (take (within (number c 0) (length picture)) picture)
     ++ drop (within (number c 0) (length picture)) picture)
     picture
-
--- a picture's width and height: 4 x Display, VDisplay / 2
-abbrev pub sizeOf : Machine → Size
-sizeOf m = record { width = capped (4 * screen (m .regs) .display .0); height = screen (m .regs) .vdisplay .0 / 2 }

@@ -6,7 +6,7 @@ ghost use lib.ListN.{length, take, drop};
 ghost use Rattle.generator.specs.Sound.{Sound};
 ghost use Rattle.picture.specs.Picture.{bufferOf};
 ghost use Rattle.keep.specs.Keep.{keptMemory};
-ghost use Rattle.deeds.specs.Deeds.{within, ticksOf, writeDone, runDone, drawDone, doneOf, pictureAfter, sizeOf};
+ghost use Rattle.deeds.specs.Deeds.{within, ticksOf, writeDone, runDone, drawDone, doneOf, pictureAfter};
 use command::Command;
 use machine::Machine;
 
@@ -16,12 +16,6 @@ pub struct Done {
     pub ticks: u32,
     pub memory: u32,
     pub machine: Machine,
-}
-
-// The width and height of a picture.
-pub struct Size {
-    pub width: u64,
-    pub height: u64,
 }
 
 // The ticks that `tick` or `run` asks for: `tick` alone is one.
@@ -117,15 +111,16 @@ pub fn act(c: Command, m: Machine, lent: u32, memory: &mut [u8], picture: &mut [
 {
     let left = c.left;
     let values = left.values;
+    let first = values[0];
     let kind = command::kind_of(c.name);
     if kind == 0 {
-        return write(m, lent, values[0], values[1]);
+        return write(m, lent, first, values[1]);
     }
     if kind == 2 {
         return run(m, lent, memory, ticks_of(c));
     }
     if kind == 3 {
-        return drawn(m, lent, memory, picture, values[0]);
+        return drawn(m, lent, memory, picture, first);
     }
     let bytes = keep::kept(c, memory, lent);
     Done {
@@ -133,18 +128,5 @@ pub fn act(c: Command, m: Machine, lent: u32, memory: &mut [u8], picture: &mut [
         ticks: 0,
         memory: bytes,
         machine: m,
-    }
-}
-
-// The width and height of a machine's picture: four pixels to a unit of Display, and a line for two half lines of VDisplay.
-pub fn size_of(m: Machine) -> Size
-    ensures size { λ r. ⌜ r ≡ sizeOf m ⌝ }
-{
-    let regs = m.regs;
-    let params = regs.params;
-    let s = units::screen_of(params);
-    Size {
-        width: base::product(4, s.display.0),
-        height: s.vdisplay.0 / 2,
     }
 }

@@ -136,7 +136,7 @@ fn pictured(
     length: u32,
 ) -> Page {
     let mut kept = p;
-    let size = deeds::size_of(m);
+    let size = acts::size_of(m);
     kept.width = base::choose(refusal == 0, size.width, kept.width);
     kept.height = base::choose(refusal == 0, size.height, kept.height);
     let bytes = text::bytes::lent(picture, length as usize);

@@ -1,20 +1,21 @@
 -- `deeds::act` meets its contract, by its kind.
 use Rattle.deeds.proofs.Laws.{does-write, does-run, does-draw, does-keep}
+use lib.Dec.{lit<}
 use borrow.Author.Needs.{needs}
 use Rattle.deeds.proofs.act.Statement.{statement}
 use Rattle.deeds.proofs.act.Tie as tie
+
+array-read-first : tie.Need-array-read-first
+array-read-first c = lit< tt
 
 kind-of-requires : tie.Need-kind-of-requires
 kind-of-requires c κs = tt
 
 array-read-write : tie.Need-array-read-write
-array-read-write c = search needs
-
-array-read-write-2 : tie.Need-array-read-write-2
-array-read-write-2 c = search needs
+array-read-write c = lit< tt
 
 write-requires : tie.Need-write-requires
-write-requires c κs = search needs
+write-requires c κs = c .before .before .before .before .before .before .pre
 
 returns : tie.Need-returns
 returns c = let a = c .before .before .before .before .before .before .before .args in let e = does-write (a .c) (a .m) (a .lent) _ _ _ (c .before .before .kind-of .ensures) (c .before .if1 .taken) _ (c .write .ensures .0) in (e .0, (e .1 .0, (e .1 .1, c .write .ensures .1)))
@@ -23,7 +24,7 @@ ticks-of-requires : tie.Need-ticks-of-requires
 ticks-of-requires c κs = tt
 
 run-requires : tie.Need-run-requires
-run-requires c κs = search needs
+run-requires c κs = c .before .before .before .before .before .before .before .before .before .pre
 
 same-length : tie.Need-same-length
 same-length c = search needs
@@ -31,11 +32,8 @@ same-length c = search needs
 returns-2 : tie.Need-returns-2
 returns-2 c = let a = c .before .before .before .before .before .before .before .before .before .before .args in let e = does-run (a .c) (a .m) (a .lent) _ _ _ (c .before .before .before .before .before .kind-of .ensures) (c .before .before .before .if2 .taken) _ (c .before .ticks-of .ensures) _ (c .run .ensures .0) in (e .0, (e .1 .0, (e .1 .1, c .run .ensures .1)))
 
-array-read-drawn : tie.Need-array-read-drawn
-array-read-drawn c = search needs
-
 drawn-requires : tie.Need-drawn-requires
-drawn-requires c κs = search needs
+drawn-requires c κs = c .before .before .before .before .before .before .before .before .before .before .pre
 
 same-length-2 : tie.Need-same-length-2
 same-length-2 c = search needs
@@ -59,16 +57,15 @@ pub act-spec : {M : Type 1} → statement M
 act-spec =
     tie.close
     (tie.spec
+    array-read-first
     kind-of-requires
     array-read-write
-    array-read-write-2
     write-requires
     returns
     ticks-of-requires
     run-requires
     same-length
     returns-2
-    array-read-drawn
     drawn-requires
     same-length-2
     same-length-3

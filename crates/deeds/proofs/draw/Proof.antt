@@ -8,7 +8,7 @@ lent-requires : tie.Need-lent-requires
 lent-requires c κs = tt
 
 draw-machine-requires : tie.Need-draw-machine-requires
-draw-machine-requires c κs = search needs
+draw-machine-requires c κs = c .before .before .before .before .pre
 
 same-length : tie.Need-same-length
 same-length c = search needs

@@ -17,7 +17,7 @@ slice-aggregate-draw : tie.Need-slice-aggregate-draw
 slice-aggregate-draw c = sym (length-take-le _ _ (omega arith))
 
 draw-requires : tie.Need-draw-requires
-draw-requires c κs = search needs
+draw-requires c κs = c .before .before .before .before .pre
 
 same-length : tie.Need-same-length
 same-length c = search needs

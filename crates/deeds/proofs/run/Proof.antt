@@ -8,7 +8,7 @@ lent-requires : tie.Need-lent-requires
 lent-requires c κs = tt
 
 run-requires : tie.Need-run-requires
-run-requires c κs = search needs
+run-requires c κs = c .before .before .pre
 
 returns : tie.Need-returns
 returns c = let r = c .before .run .ensures in (run-done _ _ _ _ (c .before .before .lent .ensures) _ _ (r .0), r .1)

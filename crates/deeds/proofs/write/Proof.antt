@@ -5,7 +5,7 @@ use Rattle.deeds.proofs.write.Statement.{statement}
 use Rattle.deeds.proofs.write.Tie as tie
 
 write-requires : tie.Need-write-requires
-write-requires c κs = search needs
+write-requires c κs = c .pre
 
 returns : tie.Need-returns
 returns c = (write-done _ _ _ _ _ (c .before .write .ensures .0), c .before .write .ensures .1)

@@ -1,7 +1,7 @@
--- `deeds::size_of` meets its contract.
+-- `acts::size_of` meets its contract.
 use borrow.Author.Needs.{needs}
-use Rattle.deeds.proofs.size_of.Statement.{statement}
-use Rattle.deeds.proofs.size_of.Tie as tie
+use Rattle.acts.proofs.size_of.Statement.{statement}
+use Rattle.acts.proofs.size_of.Tie as tie
 
 returns : tie.Need-returns
 returns c = rw (c .before .product .ensures, c .before .before .screen-of .ensures)
