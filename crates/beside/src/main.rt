@@ -6,10 +6,10 @@ ghost use lib.ListN.{length};
 ghost use Rattle.generator.specs.Tick.{tickOf};
 ghost use Rattle.generator.specs.Sound.{Sound};
 use generator::Generator;
-use generator::Signals;
 use generator::Ticked;
 use machine::Machine;
 use registers::Registers;
+use signals::Signals;
 
 // A frame of the bench screen and ten ticks.
 const CALLS: u64 = 73;

@@ -16,7 +16,7 @@ use Rattle.units.specs.Parameters.{halfTicks, halvesToVDisplay, rowLength}
 use Rattle.limits.specs.Limits.{Accepted}
 use Rattle.registers.specs.declared.Registers.{Registers}
 use Rattle.memory.specs.Memory.{endsBeyond}
-use Rattle.pixel.specs.Dot.{black}
+use Rattle.signals.specs.Signals.{black}
 use Rattle.pixel.specs.Sums.{none, summed}
 use Rattle.pixel.proofs.Laws.{summed-join}
 use Rattle.lines.specs.Lines.{opens}

@@ -11,9 +11,9 @@ use Rattle.units.specs.Parameters.{rowLength}
 use Rattle.screen.specs.Totals.{frameTicks, frameVisible, framePixels}
 use Rattle.registers.specs.declared.Registers.{Registers}
 use Rattle.memory.specs.Memory.{endsBeyond}
-use Rattle.pixel.specs.Dot.{black}
+use Rattle.signals.specs.Signals.{black}
 use Rattle.pixel.specs.Sums.{none, summed}
-use Rattle.pixel.specs.declared.Dot.{Dot}
+use Rattle.signals.specs.declared.Dot.{Dot}
 use Rattle.pixel.specs.declared.Sums.{Sums}
 use Rattle.generator.specs.Rows.{screen, visibleAt, topUsed, place, asks}
 use Rattle.generator.specs.Tick.{dotOf, tickOf, after}

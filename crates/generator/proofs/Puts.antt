@@ -10,17 +10,18 @@ use Rattle.base.specs.Count.{count, some, run}
 use Rattle.control.specs.Control.{running, transferring, pixelBits}
 use Rattle.units.specs.declared.Screen.{Screen}
 use Rattle.registers.specs.declared.Registers.{Registers}
+use Rattle.signals.specs.Signals.{black, silent}
+use Rattle.signals.specs.declared.Dot.{Dot}
+use Rattle.signals.specs.declared.Signals.{Signals}
 use Rattle.memory.specs.Memory.{endsBeyond}
-use Rattle.pixel.specs.Dot.{dotAt, black}
+use Rattle.pixel.specs.Dot.{dotAt}
 use Rattle.pixel.specs.Sums.{clearedAt, summedWhere}
-use Rattle.pixel.specs.declared.Dot.{Dot}
 use Rattle.pixel.specs.declared.Sums.{Sums}
 use Rattle.memory.proofs.Laws.{ends-beyond-later}
 use Rattle.generator.specs.Rows.{screen, visibleAt, heldAddress, place, asks, requestAt}
-use Rattle.generator.specs.Tick.{shows, dotOf, dots, refuses20, cleared, sumsAfter, seenAfter, stepWith, signalsWith, signals, silent, tickRefusal, tickOf}
+use Rattle.generator.specs.Tick.{shows, dotOf, dots, refuses20, cleared, sumsAfter, seenAfter, stepWith, signalsWith, signals, tickRefusal, tickOf}
 use Rattle.generator.specs.Stand.{Runs, Stands}
 use Rattle.generator.specs.declared.Generator.{Generator}
-use Rattle.generator.specs.declared.Signals.{Signals}
 use Rattle.generator.specs.declared.Ticked.{Ticked}
 use Rattle.generator.specs.declared.rows.Stand.{Stand}
 use Rattle.units.specs.Parameters.{halfTicks}

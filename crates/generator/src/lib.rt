@@ -6,9 +6,9 @@ ghost use mathlib.Core.Path.{_≡_};
 ghost use Rattle.generator.specs.Tick.{displaying, tickOf, fresh};
 ghost use Rattle.generator.specs.Sound.{Sound};
 ghost use Rattle.generator.specs.Stand.{Runs};
-use pixel::Dot;
 use pixel::Sums;
 use registers::Registers;
+use signals::Signals;
 use units::HalfLines;
 use units::ScreenUnits;
 
@@ -21,18 +21,6 @@ pub struct Generator {
     pub held: u32,
     pub asked: bool,
     pub sums: Sums,
-}
-
-// What a tick puts out. An address is answered exactly where `transfer` is set.
-pub struct Signals {
-    pub sync: bool,
-    pub vsync: bool,
-    pub inactive: bool,
-    pub blank: bool,
-    pub request: bool,
-    pub transfer: bool,
-    pub address: u32,
-    pub dots: [Dot; 4],
 }
 
 // A tick's refusal or 0, what it puts out, and the generator after it.
@@ -71,7 +59,7 @@ fn running_tick(r: Registers, g: Generator, memory: &[u8]) -> Ticked
     if refused {
         return Ticked {
             refusal: 20,
-            signals: output::silence(),
+            signals: signals::silence(),
             next: g,
         };
     }
@@ -108,7 +96,7 @@ pub fn tick(r: Registers, g: Generator, memory: &[u8]) -> Ticked
     }
     Ticked {
         refusal: 23,
-        signals: output::silence(),
+        signals: signals::silence(),
         next: g,
     }
 }

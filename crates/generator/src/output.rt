@@ -2,14 +2,14 @@
 ghost use mathlib.Core.Path.{_≡_};
 ghost use Prim.Native.Nat.{_<_};
 ghost use Rattle.generator.specs.Rows.{heldAddress};
-ghost use Rattle.generator.specs.Tick.{dotOf, dots, refuses20, silent, stepWith, signalsWith};
+ghost use Rattle.generator.specs.Tick.{dotOf, dots, refuses20, stepWith, signalsWith};
 ghost use Rattle.generator.specs.Stand.{Runs, Stands};
 use crate::Generator;
-use crate::Signals;
 use crate::rows::Stand;
-use pixel::Dot;
 use pixel::Sums;
 use registers::Registers;
+use signals::Dot;
+use signals::Signals;
 use units::HalfLines;
 use units::ScreenUnits;
 
@@ -91,22 +91,5 @@ pub fn signals_of(r: Registers, g: Generator, t: Stand, four: [Dot; 4]) -> Signa
         transfer,
         address: base::first(transfer, t.held, 0),
         dots: four,
-    }
-}
-
-// What a refused tick answers.
-pub fn silence() -> Signals
-    ensures signals { λ n. ⌜ n ≡ silent ⌝ }
-{
-    let black = Dot { colour: 0 };
-    Signals {
-        sync: false,
-        vsync: false,
-        inactive: false,
-        blank: false,
-        request: false,
-        transfer: false,
-        address: 0,
-        dots: [black, black, black, black],
     }
 }

@@ -4,8 +4,8 @@ ghost use Rattle.generator.specs.Tick.{tickOf};
 ghost use Rattle.generator.specs.Sound.{Sound};
 ghost use Rattle.lent.specs.Lent.{answered};
 use generator::Generator;
-use generator::Signals;
 use registers::Registers;
+use signals::Signals;
 
 // A tick's refusal or 0, and what it puts out.
 pub struct Answer {

@@ -15,7 +15,8 @@ use Rattle.registers.specs.declared.Registers.{Registers}
 use Rattle.map.proofs.Laws.{address-single}
 use Rattle.registers.proofs.Laws.{kept, back}
 use Rattle.generator.specs.Rows.{screen}
-use Rattle.generator.specs.Tick.{fresh, tickRefusal, tickOf, silent}
+use Rattle.generator.specs.Tick.{fresh, tickRefusal, tickOf}
+use Rattle.signals.specs.Signals.{silent}
 use Rattle.generator.specs.declared.Generator.{Generator}
 use Rattle.access.specs.Access.{startLimit, writeRefusal}
 use Rattle.machine.specs.Rules.{stored, written, readRefusal, valueAt, answered, advanced}

@@ -13,7 +13,7 @@ use Rattle.units.specs.declared.Screen.{Screen}
 use Rattle.registers.specs.declared.Registers.{Registers}
 use Rattle.memory.specs.Memory.{pixelShown}
 use Rattle.pixel.specs.Dot.{dotAt}
-use Rattle.pixel.specs.declared.Dot.{Dot}
+use Rattle.signals.specs.declared.Dot.{Dot}
 use Rattle.pixel.specs.declared.Sums.{Sums}
 use Rattle.lines.specs.Lines.{period, secondHalf, inLine, visible, opens, closes, nextHalf, nextAt}
 use Rattle.generator.specs.Rows.{screen, visibleAt, taken, transferAt, heldAddress, place, asks, leads, requestAt}

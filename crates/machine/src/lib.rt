@@ -3,9 +3,9 @@ ghost use mathlib.Core.Path.{_≡_};
 ghost use Rattle.generator.specs.Sound.{Sound};
 ghost use Rattle.machine.specs.Rules.{beginning, stored, written, readRefusal, valueAt, answered, advanced};
 use generator::Generator;
-use generator::Signals;
 use map::Place;
 use registers::Registers;
+use signals::Signals;
 
 pub struct Machine {
     pub regs: Registers,

@@ -18,7 +18,8 @@ use Rattle.screen.specs.Totals.{frameTicks, frameVisible}
 use Rattle.registers.specs.declared.Registers.{Registers}
 use Rattle.memory.specs.Memory.{bitsAt, pixelShown}
 use Rattle.colour.specs.Colour.{maskedPalette}
-use Rattle.pixel.specs.Dot.{codeShown, dotAt, black}
+use Rattle.pixel.specs.Dot.{codeShown, dotAt}
+use Rattle.signals.specs.Signals.{black}
 use Rattle.cursor.specs.Cursor.{over}
 use Rattle.pixel.specs.Sums.{none}
 use Rattle.pixel.specs.declared.Sums.{Sums}

@@ -11,7 +11,7 @@ use Rattle.limits.specs.Limits.{Accepted}
 use Rattle.screen.specs.Totals.{frameVisible}
 use Rattle.registers.specs.declared.Registers.{Registers}
 use Rattle.memory.specs.Memory.{endsBeyond}
-use Rattle.pixel.specs.declared.Dot.{Dot}
+use Rattle.signals.specs.declared.Dot.{Dot}
 use Rattle.pixel.specs.declared.Sums.{Sums}
 use Rattle.generator.specs.Rows.{screen}
 use Rattle.generator.specs.declared.Generator.{Generator}

@@ -41,7 +41,7 @@ fn picture_room() -> [u8; PICTURE_BYTES] {
 }
 
 // One tick's signals, or its refusal.
-fn told(p: Page, out: &mut [u8], line: u64, refusal: u32, s: generator::Signals) -> Page {
+fn told(p: Page, out: &mut [u8], line: u64, refusal: u32, s: signals::Signals) -> Page {
     let page = report::space(p, out);
     if refusal == 0 {
         return report::tick(page, out, s);
