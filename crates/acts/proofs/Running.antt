@@ -12,7 +12,7 @@ use Rattle.machine.specs.declared.Advanced.{Advanced}
 use Rattle.acts.specs.Machines.{ranOn, ranOf, picturedOf}
 use Rattle.acts.specs.declared.Ran.{Ran}
 use Rattle.acts.specs.declared.Pictured.{Pictured}
-use Rattle.generator.specs.Sound.{Sound}
+use Rattle.counters.specs.Sound.{Sound}
 use Rattle.picture.specs.Picture.{drawnOf}
 use Rattle.picture.specs.declared.Drawn.{Drawn}
 use Rattle.picture.proofs.Laws.{drawn-sound}

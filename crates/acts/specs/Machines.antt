@@ -8,7 +8,7 @@ use Rattle.machine.specs.Rules.{answered, advanced}
 use Rattle.machine.specs.declared.Machine.{Machine}
 use Rattle.machine.specs.declared.Answered.{Answered}
 use Rattle.base.specs.Sum.{capped}
-use Rattle.generator.specs.Rows.{screen}
+use Rattle.counters.specs.Rows.{screen}
 use Rattle.picture.specs.Picture.{drawnOf}
 use Rattle.acts.specs.declared.Ran.{Ran}
 use Rattle.acts.specs.declared.Pictured.{Pictured}

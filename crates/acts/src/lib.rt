@@ -1,7 +1,7 @@
 // What commands do to a machine: a write, one tick, many ticks, and the checksums.
 ghost use mathlib.Core.Path.{_≡_};
 ghost use Prim.Native.Nat.{_≤_};
-ghost use Rattle.generator.specs.Sound.{Sound};
+ghost use Rattle.counters.specs.Sound.{Sound};
 ghost use Rattle.machine.specs.Rules.{beginning, written, advanced};
 ghost use Rattle.acts.specs.Machines.{nineOf, ranOf, picturedOf, sizeOf};
 ghost use Rattle.picture.specs.Picture.{bufferOf};

@@ -18,7 +18,7 @@ use Rattle.registers.specs.declared.Registers.{Registers}
 use Rattle.pixel.specs.Dot.{dotAt}
 use Rattle.signals.specs.Signals.{black}
 use Rattle.signals.specs.declared.Dot.{Dot}
-use Rattle.generator.specs.Rows
+use Rattle.counters.specs.Rows
 use Rattle.generator.specs.Tick
 use Rattle.access.specs.Access
 use Rattle.machine.specs.Rules

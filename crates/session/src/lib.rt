@@ -1,6 +1,6 @@
 // A session over a script (console.md), in one of three forms: answers, a waveform of the ticks, or the last picture.
 ghost use Prim.Native.Nat.{_≤_};
-ghost use Rattle.generator.specs.Sound.{Sound};
+ghost use Rattle.counters.specs.Sound.{Sound};
 use command::Command;
 use machine::Machine;
 use report::Page;

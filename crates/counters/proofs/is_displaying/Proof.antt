@@ -1,4 +1,4 @@
--- `generator::is_displaying` meets its contract: the period of a running generator's next tick.
+-- `counters::is_displaying` meets its contract: the period of a running generator's next tick.
 use Prim.Native.Nat.{ℕ, _<_, _^_}
 use mathlib.Core.Bool.{Bool, true}
 use mathlib.Core.Path.{_≡_, sym, ap, _∙_}
@@ -8,12 +8,12 @@ use Rattle.limits.proofs.Laws.{narrow}
 use Rattle.registers.specs.declared.Registers.{Registers}
 use Rattle.lines.specs.Lines.{momentOf}
 use Rattle.lines.specs.declared.Moment.{Moment}
-use Rattle.generator.specs.Sound.{Sound}
-use Rattle.generator.specs.Rows.{screen}
-use Rattle.generator.specs.Tick.{displaying}
-use Rattle.generator.specs.declared.Generator.{Generator}
-use Rattle.generator.proofs.is_displaying.Statement.{statement}
-use Rattle.generator.proofs.is_displaying.Tie as tie
+use Rattle.counters.specs.Sound.{Sound}
+use Rattle.counters.specs.Rows.{screen}
+use Rattle.counters.specs.Counters.{displaying}
+use Rattle.counters.specs.declared.Generator.{Generator}
+use Rattle.counters.proofs.is_displaying.Statement.{statement}
+use Rattle.counters.proofs.is_displaying.Tie as tie
 
 -- a running generator's half line fits 32 bits
 half-in : (r : Registers) (g : Generator) → Sound r g → running (r .control) ≡ true → g .half .0 < 2 ^ 32

@@ -13,7 +13,7 @@ use Rattle.units.specs.Parameters.{halfTicks, displayFrom, halvesToVBlank, halv
 use Rattle.limits.specs.Limits.{Accepted}
 use Rattle.units.specs.declared.Screen.{Screen}
 use Rattle.lines.specs.Lines.{period, isVDisplay, secondHalf, inLine, inDisplay, visible, tickNumber}
-use Rattle.generator.specs.Sound.{shownBefore}
+use Rattle.counters.specs.Sound.{shownBefore}
 use Rattle.lines.specs.declared.Period.the-variants.{PreEqualise, VSync, PostEqualise, VBlank, VDisplay}
 
 -- a test and what it says, as a case

@@ -1,11 +1,11 @@
--- `generator::rows::place_of` meets its contract: a row number of 32 bits, and rows of at most 2^26 ticks.
+-- `stand::place_of` meets its contract: a row number of 32 bits, and rows of at most 2^26 ticks.
 use mathlib.Core.Path.{refl}
 use native.Mathlib.Nat.{div-le-self}
 use native.Mathlib.Omega.{arith}
 use borrow.Author.Needs.{needs}
-use Rattle.generator.proofs.Bounds.{row-in, place-in}
-use Rattle.generator.proofs.rows.place_of.Statement.{statement}
-use Rattle.generator.proofs.rows.place_of.Tie as tie
+use Rattle.stand.proofs.Bounds.{row-in, place-in}
+use Rattle.stand.proofs.place_of.Statement.{statement}
+use Rattle.stand.proofs.place_of.Tie as tie
 
 cast-number : tie.Need-cast-number
 cast-number c = omega (arith, div-le-self (c .args .held) (c .args .increment))

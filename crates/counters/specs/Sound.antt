@@ -11,8 +11,8 @@ use Rattle.units.specs.declared.Screen.{Screen}
 use Rattle.registers.specs.File.{Held}
 use Rattle.registers.specs.declared.Registers.{Registers}
 use Rattle.lines.specs.Lines.{visible, tickNumber}
-use Rattle.generator.specs.Rows.{screen}
-use Rattle.generator.specs.declared.Generator.{Generator}
+use Rattle.counters.specs.Rows.{screen}
+use Rattle.counters.specs.declared.Generator.{Generator}
 
 -- the frame's visible ticks among its first n
 unfoldable pub shownBefore : Screen → ℕ → ℕ

@@ -1,23 +1,27 @@
--- Rows (01, "Rows and pixels"): top of screen, transfers, addresses, the request. r: the registers, g: the generator before the tick.
--- Assumes nothing.
+-- Rows (01, "Rows and pixels"): what shows, top of screen, transfers, addresses, the request. r: the registers, g: the generator before
+-- the tick. Assumes nothing.
 use Prim.Native.Nat.{ℕ, _+_, _*_, _/_, _%_}
-use mathlib.Core.Bool.{Bool, cond, _&&_}
+use mathlib.Core.Bool.{Bool, not, cond, _&&_}
 use lib.Dec.{ltb, eqb}
 use Rattle.base.specs.Sum.{rolled}
-use Rattle.control.specs.Control.{transferring, increment}
+use Rattle.control.specs.Control.{forcedBlank, transferring, increment}
 use Rattle.units.specs.Parameters.{screenOf, halfTicks, displayFrom, halvesToVDisplay, rowLength}
 use Rattle.screen.specs.Totals.{frameVisible}
 use Rattle.request.specs.Request.{asking, leading, requested}
 use Rattle.units.specs.declared.Screen.{Screen}
 use Rattle.registers.specs.declared.Registers.{Registers}
 use Rattle.lines.specs.Lines.{visible, opens}
-use Rattle.generator.specs.declared.Generator.{Generator}
+use Rattle.counters.specs.declared.Generator.{Generator}
 
 abbrev pub screen : Registers → Screen
 screen r = screenOf (r .params)
 
 unfoldable pub visibleAt : Registers → Generator → Bool
 visibleAt r g = visible (screen r) (g .half .0) (g .at .0)
+
+-- a tick is blank unless visible and not forced blank
+unfoldable pub shows : Registers → Generator → Bool
+shows r g = visibleAt r g && not (forcedBlank (r .control))
 
 -- the top that a frame starts at: one for every frame
 abbrev pub topUsed : Registers → ℕ
