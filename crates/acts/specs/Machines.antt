@@ -4,7 +4,7 @@ use mathlib.Core.Bool.{cond}
 use mathlib.Core.List.{List}
 use lib.Dec.{eqb}
 use Rattle.base.specs.Sum.{capped}
-use Rattle.generator.specs.Rows.{screen}
+use Rattle.counters.specs.Rows.{screen}
 use Rattle.machine.specs.Rules.{advanced}
 use Rattle.machine.specs.declared.Machine.{Machine}
 use Rattle.acts.specs.declared.Ran.{Ran}

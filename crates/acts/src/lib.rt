@@ -1,6 +1,6 @@
 // A machine's calls with the one condition beside each: the beginning, a write, one tick, and many; and its picture's size.
 ghost use mathlib.Core.Path.{_≡_};
-ghost use Rattle.generator.specs.Sound.{Sound};
+ghost use Rattle.counters.specs.Sound.{Sound};
 ghost use Rattle.machine.specs.Rules.{beginning, written, advanced};
 ghost use Rattle.acts.specs.Machines.{ranOf, sizeOf};
 use machine::Advanced;

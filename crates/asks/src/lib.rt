@@ -1,7 +1,7 @@
 // What commands that only ask say: in answers what they found, elsewhere nothing unless they are refused.
 ghost use mathlib.Core.Path.{_≡_};
 ghost use lib.ListN.{length};
-ghost use Rattle.generator.specs.Sound.{Sound};
+ghost use Rattle.counters.specs.Sound.{Sound};
 use command::Command;
 use machine::Machine;
 use report::Page;

@@ -4,12 +4,12 @@ ghost use Prim.Native.Nat.{_+_, _<_};
 ghost use mathlib.Core.Path.{_≡_};
 ghost use lib.ListN.{length};
 ghost use Rattle.generator.specs.Tick.{tickOf};
-ghost use Rattle.generator.specs.Sound.{Sound};
-use generator::Generator;
-use generator::Signals;
+ghost use Rattle.counters.specs.Sound.{Sound};
+use counters::Generator;
 use generator::Ticked;
 use machine::Machine;
 use registers::Registers;
+use signals::Signals;
 
 // A frame of the bench screen and ten ticks.
 const CALLS: u64 = 73;

@@ -4,7 +4,7 @@ ghost use Prim.Native.Nat.{_+_, _/_, _%_, _^_, _<_};
 ghost use lib.ListN.{length};
 ghost use Rattle.room.specs.Room.{putText, putEnd, putTexts, putEnds};
 ghost use Rattle.buses.specs.Buses.{busText, busChange, busTexts, busesDiffer};
-use generator::Signals;
+use signals::Signals;
 
 // Bit n of a number, as a digit.
 fn bit(value: u32, n: u32) -> u8

@@ -15,9 +15,10 @@ use Rattle.screen.specs.Totals
 use Rattle.map.specs.Map
 use Rattle.registers.specs.File
 use Rattle.registers.specs.declared.Registers.{Registers}
-use Rattle.pixel.specs.Dot.{dotAt, black}
-use Rattle.pixel.specs.declared.Dot.{Dot}
-use Rattle.generator.specs.Rows
+use Rattle.pixel.specs.Dot.{dotAt}
+use Rattle.signals.specs.Signals.{black}
+use Rattle.signals.specs.declared.Dot.{Dot}
+use Rattle.counters.specs.Rows
 use Rattle.generator.specs.Tick
 use Rattle.access.specs.Access
 use Rattle.machine.specs.Rules

@@ -3,7 +3,7 @@ ghost use mathlib.Core.Path.{_≡_};
 ghost use mathlib.Core.List.{_++_};
 ghost use Prim.Native.Nat.{_≤_};
 ghost use lib.ListN.{length, take, drop};
-ghost use Rattle.generator.specs.Sound.{Sound};
+ghost use Rattle.counters.specs.Sound.{Sound};
 ghost use Rattle.picture.specs.Picture.{bufferOf};
 ghost use Rattle.keep.specs.Keep.{keptMemory};
 ghost use Rattle.deeds.specs.Deeds.{within, ticksOf, writeDone, runDone, drawDone, doneOf, pictureAfter};

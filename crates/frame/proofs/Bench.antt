@@ -14,9 +14,9 @@ use Rattle.screen.specs.Totals.{totalsOf}
 use Rattle.limits.proofs.Laws.{accepted}
 use Rattle.registers.specs.File.{Held}
 use Rattle.registers.proofs.Laws.{zeros-held}
-use Rattle.generator.specs.Tick.{fresh}
-use Rattle.generator.specs.Sound.{Sound}
-use Rattle.generator.proofs.Shown.{below}
+use Rattle.counters.specs.Counters.{fresh}
+use Rattle.counters.specs.Sound.{Sound}
+use Rattle.counters.proofs.Shown.{below}
 use Rattle.generator.proofs.Kept.{fresh-placed}
 use Rattle.frame.specs.Bench.{benchParameters, benchControl, benchRegisters}
 use Rattle.frame.specs.Demand.{addressesAnswered, Ready, Counted}

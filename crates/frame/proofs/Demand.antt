@@ -20,10 +20,10 @@ use Rattle.units.specs.declared.Screen.{Screen}
 use Rattle.registers.specs.declared.Registers.{Registers}
 use Rattle.memory.specs.Memory.{endsBeyond}
 use Rattle.pixel.specs.Dot.{dotAt}
-use Rattle.generator.specs.Rows.{screen, visibleAt, topUsed, transferAt, heldAddress, place}
-use Rattle.generator.specs.Tick.{positionUsed, shows, dotOf, refuses20, seenAfter, signals, signalsWith, tickRefusal, tickOf, after}
-use Rattle.generator.specs.declared.Generator.{Generator}
-use Rattle.generator.specs.declared.Signals.{Signals}
+use Rattle.counters.specs.Rows.{screen, visibleAt, shows, topUsed, transferAt, heldAddress, place}
+use Rattle.generator.specs.Tick.{positionUsed, dotOf, refuses20, seenAfter, signals, signalsWith, tickRefusal, tickOf, after}
+use Rattle.counters.specs.declared.Generator.{Generator}
+use Rattle.signals.specs.declared.Signals.{Signals}
 use Rattle.frame.specs.Frame.{AtStart, rowAddress, addressAt, placeAt, dotFor, pictureRefuses20, frameEnd, Whole}
 use Rattle.frame.specs.Demand.{answer, isShown, isTransfer, addressesAnswered, placesShown, firstPlace, Ready, Demand3}
 use Rattle.base.proofs.Some.{some-none, some-at}

@@ -14,12 +14,12 @@ use Rattle.limits.proofs.Laws.{narrow}
 use Rattle.registers.specs.declared.Registers.{Registers}
 use Rattle.pixel.specs.declared.Sums.{Sums}
 use Rattle.lines.specs.Lines.{visible, tickNumber}
-use Rattle.generator.specs.Rows.{screen}
+use Rattle.counters.specs.Rows.{screen}
 use Rattle.generator.specs.Tick.{stepWith}
-use Rattle.generator.specs.Sound.{shownBefore, Placed}
-use Rattle.generator.specs.declared.Generator.{Generator}
-use Rattle.generator.proofs.Shown.{below, dark, lit, line-first, line-second, shownAt, shown-dark, shown-lit, shown-closed}
-use Rattle.generator.proofs.Stands.{row-some}
+use Rattle.counters.specs.Sound.{shownBefore, Placed}
+use Rattle.counters.specs.declared.Generator.{Generator}
+use Rattle.counters.proofs.Shown.{below, dark, lit, line-first, line-second, shownAt, shown-dark, shown-lit, shown-closed}
+use Rattle.stand.proofs.Stands.{row-some}
 use Rattle.generator.proofs.Kept.{next, closes-before, last-at, last-half, step-placed}
 use Rattle.frame.specs.Frame.{AtStart}
 

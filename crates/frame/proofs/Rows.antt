@@ -16,13 +16,13 @@ use Rattle.units.specs.Parameters.{halfTicks, halvesToVDisplay, rowLength}
 use Rattle.limits.specs.Limits.{Accepted}
 use Rattle.registers.specs.declared.Registers.{Registers}
 use Rattle.memory.specs.Memory.{endsBeyond}
-use Rattle.pixel.specs.Dot.{black}
+use Rattle.signals.specs.Signals.{black}
 use Rattle.pixel.specs.Sums.{none, summed}
 use Rattle.pixel.proofs.Laws.{summed-join}
 use Rattle.lines.specs.Lines.{opens}
-use Rattle.generator.specs.Rows.{screen, visibleAt, topUsed, taken, transferAt, heldAddress, place}
-use Rattle.generator.specs.Tick.{shows, dotOf, dots, refuses20, cleared, sumsAfter, seenAfter}
-use Rattle.generator.specs.declared.Generator.{Generator}
+use Rattle.counters.specs.Rows.{screen, visibleAt, shows, topUsed, taken, transferAt, heldAddress, place}
+use Rattle.generator.specs.Tick.{dotOf, dots, refuses20, cleared, sumsAfter, seenAfter}
+use Rattle.counters.specs.declared.Generator.{Generator}
 use Rattle.frame.specs.Frame.{rowAddress, addressAt, placeAt, dotFor, sumsTo}
 use Rattle.frame.proofs.Some.{some-same, some-four, some-and}
 use Rattle.frame.proofs.Place.{AtTick, rows-some, first-seen, first-only}

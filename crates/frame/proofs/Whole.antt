@@ -16,10 +16,10 @@ use Rattle.screen.specs.Totals.{frameTicks, frameVisible}
 use Rattle.units.specs.declared.Screen.{Screen}
 use Rattle.registers.specs.declared.Registers.{Registers}
 use Rattle.lines.specs.Lines.{closes}
-use Rattle.generator.specs.Rows.{screen, visibleAt, taken, heldAddress, asks}
+use Rattle.counters.specs.Rows.{screen, visibleAt, taken, heldAddress, asks}
 use Rattle.generator.specs.Tick.{dots, refuses20, sumsAfter, seenAfter, stepWith, step, signalsWith, tickRefusal, tickOf, after}
-use Rattle.generator.specs.Sound.{Sound, Placed}
-use Rattle.generator.specs.declared.Generator.{Generator}
+use Rattle.counters.specs.Sound.{Sound, Placed}
+use Rattle.counters.specs.declared.Generator.{Generator}
 use Rattle.generator.proofs.Kept.{closes-before, closes-last, half-first, at-first}
 use Rattle.frame.specs.Frame.{AtStart, drawn, refusedWithin, rowAddress, addressAt, dotFor, sumsTo, pictureRefuses20, frameEnd, Whole}
 use Rattle.frame.proofs.Some.{some-on, not-first, not-second}

@@ -12,10 +12,10 @@ use Rattle.screen.specs.Totals.{frameTicks, frameVisible, frameTransfers, frame
 use Rattle.screen.specs.declared.Totals.{Totals}
 use Rattle.registers.specs.declared.Registers.{Registers}
 use Rattle.pixel.specs.Dot.{dotAt}
-use Rattle.generator.specs.Rows.{screen, topUsed, heldAddress, rowNumber, place}
+use Rattle.counters.specs.Rows.{screen, topUsed, heldAddress, rowNumber, place}
 use Rattle.generator.specs.Tick.{positionUsed, tickOf, after}
-use Rattle.generator.specs.Sound.{Sound}
-use Rattle.generator.specs.declared.Generator.{Generator}
+use Rattle.counters.specs.Sound.{Sound}
+use Rattle.counters.specs.declared.Generator.{Generator}
 use Rattle.generator.specs.declared.Ticked.{Ticked}
 use Rattle.frame.specs.Frame.{AtStart, drawn, frameEnd}
 

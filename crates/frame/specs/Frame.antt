@@ -11,13 +11,13 @@ use Rattle.units.specs.Parameters.{rowLength}
 use Rattle.screen.specs.Totals.{frameTicks, frameVisible, framePixels}
 use Rattle.registers.specs.declared.Registers.{Registers}
 use Rattle.memory.specs.Memory.{endsBeyond}
-use Rattle.pixel.specs.Dot.{black}
+use Rattle.signals.specs.Signals.{black}
 use Rattle.pixel.specs.Sums.{none, summed}
-use Rattle.pixel.specs.declared.Dot.{Dot}
+use Rattle.signals.specs.declared.Dot.{Dot}
 use Rattle.pixel.specs.declared.Sums.{Sums}
-use Rattle.generator.specs.Rows.{screen, visibleAt, topUsed, place, asks}
+use Rattle.counters.specs.Rows.{screen, visibleAt, topUsed, place, asks}
 use Rattle.generator.specs.Tick.{dotOf, tickOf, after}
-use Rattle.generator.specs.declared.Generator.{Generator}
+use Rattle.counters.specs.declared.Generator.{Generator}
 
 -- before the first tick of a frame
 pub record AtStart (g : Generator) : Type 0 where

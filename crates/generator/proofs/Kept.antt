@@ -17,12 +17,13 @@ use Rattle.units.specs.declared.Screen.{Screen}
 use Rattle.registers.specs.declared.Registers.{Registers}
 use Rattle.pixel.specs.declared.Sums.{Sums}
 use Rattle.lines.specs.Lines.{closes, nextHalf, nextAt, tickNumber}
-use Rattle.generator.specs.Rows.{screen, visibleAt}
-use Rattle.generator.specs.Tick.{sumsAfter, seenAfter, stepWith, tickRefusal, tickOf, fresh}
-use Rattle.generator.specs.Sound.{shownBefore, Placed, Sound}
-use Rattle.generator.specs.declared.Generator.{Generator}
+use Rattle.counters.specs.Rows.{screen, visibleAt}
+use Rattle.counters.specs.Counters.{fresh}
+use Rattle.generator.specs.Tick.{sumsAfter, seenAfter, stepWith, tickRefusal, tickOf}
+use Rattle.counters.specs.Sound.{shownBefore, Placed, Sound}
+use Rattle.counters.specs.declared.Generator.{Generator}
 use Rattle.generator.specs.declared.Ticked.{Ticked}
-use Rattle.generator.proofs.Shown.{below, shown-next}
+use Rattle.counters.proofs.Shown.{below, shown-next}
 
 module _ (s : Screen) (h u : ℕ) where
   -- the next tick of the half line

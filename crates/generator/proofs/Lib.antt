@@ -1,6 +1,4 @@
 -- Laws of the generator's rules.
-pub mod Bounds
-pub mod Stands
-pub mod Shown
+pub mod Stood
 pub mod Puts
 pub mod Kept

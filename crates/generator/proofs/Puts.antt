@@ -10,26 +10,28 @@ use Rattle.base.specs.Count.{count, some, run}
 use Rattle.control.specs.Control.{running, transferring, pixelBits}
 use Rattle.units.specs.declared.Screen.{Screen}
 use Rattle.registers.specs.declared.Registers.{Registers}
+use Rattle.signals.specs.Signals.{black, silent}
+use Rattle.signals.specs.declared.Dot.{Dot}
+use Rattle.signals.specs.declared.Signals.{Signals}
 use Rattle.memory.specs.Memory.{endsBeyond}
-use Rattle.pixel.specs.Dot.{dotAt, black}
+use Rattle.pixel.specs.Dot.{dotAt}
 use Rattle.pixel.specs.Sums.{clearedAt, summedWhere}
-use Rattle.pixel.specs.declared.Dot.{Dot}
 use Rattle.pixel.specs.declared.Sums.{Sums}
 use Rattle.memory.proofs.Laws.{ends-beyond-later}
-use Rattle.generator.specs.Rows.{screen, visibleAt, heldAddress, place, asks, requestAt}
-use Rattle.generator.specs.Tick.{shows, dotOf, dots, refuses20, cleared, sumsAfter, seenAfter, stepWith, signalsWith, signals, silent, tickRefusal, tickOf}
-use Rattle.generator.specs.Stand.{Runs, Stands}
-use Rattle.generator.specs.declared.Generator.{Generator}
-use Rattle.generator.specs.declared.Signals.{Signals}
+use Rattle.counters.specs.Rows.{screen, visibleAt, shows, heldAddress, place, asks}
+use Rattle.generator.specs.Tick.{dotOf, dots, refuses20, cleared, sumsAfter, seenAfter, stepWith, signalsWith, signals, tickRefusal, tickOf}
+use Rattle.stand.specs.Stand.{Runs}
+use Rattle.generator.specs.Stands.{Stands}
+use Rattle.counters.specs.declared.Generator.{Generator}
 use Rattle.generator.specs.declared.Ticked.{Ticked}
-use Rattle.generator.specs.declared.rows.Stand.{Stand}
+use Rattle.stand.specs.declared.Stand.{Stand}
 use Rattle.units.specs.Parameters.{halfTicks}
 use Rattle.limits.proofs.Laws.{narrow}
 use Rattle.lines.specs.Lines.{visible, tickNumber, momentOf}
-use Rattle.generator.specs.Sound.{shownBefore}
-use Rattle.generator.proofs.Stands.{moment-opens}
-use Rattle.generator.proofs.Bounds.{lines-in}
-use Rattle.generator.proofs.Shown.{shown-line}
+use Rattle.counters.specs.Sound.{shownBefore}
+use Rattle.generator.proofs.Stood.{moment-opens}
+use Rattle.stand.proofs.Bounds.{lines-in}
+use Rattle.counters.proofs.Shown.{shown-line}
 
 or-true : (a b : Bool) → (a ≡ true → b ≡ true) → (a || b) ≡ b
 or-true true b h = sym (h refl)
@@ -83,13 +85,16 @@ unfolding stepWith seenAfter visibleAt momentOf
 next-by r g t st sums asked more seen em es ek = rw (es, ek, em, st .asking-is, st .moment-is, st .held-is)
 
 -- every signal, from what its parts answer
-pub signals-by : (r : Registers) (g : Generator) (t : Stand) → Stands r g t → (four : List Dot) (request on : Bool) (address : ℕ) → request ≡ requestAt r g → on ≡ transferring (r .control) → address ≡ cond (on && t .transfer) (t .held) 0 →
-    record { sync = not (t .moment .low); vsync = not (t .moment .vsync); inactive = not (t .moment .vdisplay); blank = not (t .shows); request = request; transfer = on && t .transfer; address = address; dots = four } ≡ signalsWith r g four
+pub signals-by : (r : Registers) (g : Generator) (t : Stand) → Stands r g t → (four : List Dot) (on : Bool) (address : ℕ) → on ≡ transferring (r .control) → address ≡ cond (on && t .transfer) (t .held) 0 →
+    record { sync = not (t .moment .low); vsync = not (t .moment .vsync); inactive = not (t .moment .vdisplay); blank = not (t .shows); request = t .request; transfer = on && t .transfer; address = address; dots = four } ≡ signalsWith r g four
 unfolding signalsWith momentOf
-signals-by r g t st four request on address eq eo ea = rw (ea, eq, eo, st .moment-is, st .shows-is, st .transfer-is, st .held-is)
+signals-by r g t st four on address eo ea = rw (ea, eo, st .moment-is, st .shows-is, st .request-is, st .transfer-is, st .held-is)
 
 -- the columns and lines of a placed generator's next tick
 module _ (r : Registers) (g : Generator) (k : Runs r g) (s : Screen) (e : s ≡ screen r) where
+  pub display-some : 0 < s .display .0
+  display-some = rw e (k .accepted .bounded .display .low)
+
   pub column-in : g .seen .0 % s .display .0 ≤ 0xFFFFFF
   column-in = rw e (omega (arith, mod-lt (g .seen .0) {m = screen r .display .0} (k .accepted .bounded .display .low), k .accepted .bounded .display .high))
 

@@ -1,5 +1,3 @@
--- The rules of a tick: lines and frames, rows, what goes out, and the one condition.
-pub mod Rows
+-- The rules of a tick: what goes out, and the generator after it.
 pub mod Tick
-pub mod Sound
-pub mod Stand
+pub mod Stands

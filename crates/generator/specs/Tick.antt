@@ -2,25 +2,22 @@
 -- r: the registers, m: the picture memory, g: the generator before the tick. Assumes nothing.
 use Prim.Native.Nat.{ℕ, zero, suc, _+_, _*_, _/_, _%_}
 use mathlib.Core.Bool.{Bool, true, false, not, cond, _&&_}
-use mathlib.Core.List.{List, [], _∷_}
+use mathlib.Core.List.{List}
 use lib.Dec.{eqb}
 use Rattle.base.specs.Count.{some, run}
-use Rattle.control.specs.Control.{running, plain, forcedBlank, transferring, pixelBits}
+use Rattle.control.specs.Control.{running, plain, transferring, pixelBits}
 use Rattle.registers.specs.declared.Registers.{Registers}
+use Rattle.signals.specs.Signals.{black, silent}
+use Rattle.signals.specs.declared.Dot.{Dot}
+use Rattle.signals.specs.declared.Signals.{Signals}
 use Rattle.memory.specs.Memory.{endsBeyond}
-use Rattle.pixel.specs.Dot.{dotAt, black}
-use Rattle.pixel.specs.Sums.{none, clearedAt, summedWhere}
-use Rattle.pixel.specs.declared.Dot.{Dot}
+use Rattle.pixel.specs.Dot.{dotAt}
+use Rattle.pixel.specs.Sums.{clearedAt, summedWhere}
 use Rattle.pixel.specs.declared.Sums.{Sums}
 use Rattle.lines.specs.Lines.{period, isVSync, isVDisplay, syncLow, opens, closes, nextHalf, nextAt}
-use Rattle.generator.specs.Rows.{screen, visibleAt, transferAt, heldAddress, place, asks, requestAt}
-use Rattle.generator.specs.declared.Generator.{Generator}
-use Rattle.generator.specs.declared.Signals.{Signals}
+use Rattle.counters.specs.Rows.{screen, visibleAt, shows, transferAt, heldAddress, place, asks, requestAt}
+use Rattle.counters.specs.declared.Generator.{Generator}
 use Rattle.generator.specs.declared.Ticked.{Ticked}
-
--- a tick is blank unless visible and not forced blank
-unfoldable pub shows : Registers → Generator → Bool
-shows r g = visibleAt r g && not (forcedBlank (r .control))
 
 -- the cursor position that the colours use: the written one
 abbrev pub positionUsed : Registers → ℕ
@@ -86,29 +83,11 @@ signalsWith r g four =
 abbrev pub signals : Registers → List ℕ → Generator → Signals
 signals r m g = signalsWith r g (dots r m g)
 
--- a refused tick answers 0 for all else
-abbrev pub silent : Signals
-silent =
-    record {
-      sync = false;
-      vsync = false;
-      inactive = false;
-      blank = false;
-      request = false;
-      transfer = false;
-      address = 0;
-      dots = black ∷ black ∷ black ∷ black ∷ [];
-    }
-
--- running, and the next tick not in flyback: it lies in VDisplay
-unfoldable pub displaying : Registers → Generator → Bool
-displaying r g = running (r .control) && isVDisplay (period (screen r) (g .half .0))
-
 -- the order for a tick: 23, 20
 unfoldable pub tickRefusal : Registers → List ℕ → Generator → ℕ
 tickRefusal r m g = cond (running (r .control)) (cond (refuses20 r m g) 20 0) 23
 
--- ONE TICK: a refused one moves nothing
+-- ONE TICK: a refused one moves nothing, and answers 0 for all else
 unfoldable pub tickOf : Registers → List ℕ → Generator → Ticked
 tickOf r m g =
     cond (eqb (tickRefusal r m g) 0)
@@ -119,15 +98,3 @@ tickOf r m g =
 unfoldable pub after : Registers → List ℕ → Generator → ℕ → Generator
 after r m g zero = g
 after r m g (suc n) = tickOf r m (after r m g n) .next
-
--- a generator before the first tick of PreEqualise, checksums at zero
-abbrev pub fresh : Generator
-fresh =
-    record {
-      half = record { 0 = 0 };
-      at = record { 0 = 0 };
-      seen = record { 0 = 0 };
-      held = 0;
-      asked = false;
-      sums = none;
-    }

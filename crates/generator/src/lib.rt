@@ -1,39 +1,15 @@
 // The video timing generator (01, "Lines and frames", "Rows and pixels"): one tick by value.
 mod output;
-mod rows;
 
 ghost use mathlib.Core.Path.{_≡_};
-ghost use Rattle.generator.specs.Tick.{displaying, tickOf, fresh};
-ghost use Rattle.generator.specs.Sound.{Sound};
-ghost use Rattle.generator.specs.Stand.{Runs};
-use pixel::Dot;
-use pixel::Sums;
+ghost use Rattle.counters.specs.Sound.{Sound};
+ghost use Rattle.stand.specs.Stand.{Runs};
+ghost use Rattle.generator.specs.Tick.{tickOf};
+ghost use Rattle.generator.specs.Stands.{Stands};
+use counters::Generator;
 use registers::Registers;
-use units::HalfLines;
-use units::ScreenUnits;
-
-// The next tick's half line and its number in that half line; the frame's visible ticks so far; the last address; the request at the
-// last visible tick; the checksums.
-pub struct Generator {
-    pub half: HalfLines,
-    pub at: ScreenUnits,
-    pub seen: ScreenUnits,
-    pub held: u32,
-    pub asked: bool,
-    pub sums: Sums,
-}
-
-// What a tick puts out. An address is answered exactly where `transfer` is set.
-pub struct Signals {
-    pub sync: bool,
-    pub vsync: bool,
-    pub inactive: bool,
-    pub blank: bool,
-    pub request: bool,
-    pub transfer: bool,
-    pub address: u32,
-    pub dots: [Dot; 4],
-}
+use signals::Signals;
+use stand::Stand;
 
 // A tick's refusal or 0, what it puts out, and the generator after it.
 pub struct Ticked {
@@ -42,28 +18,12 @@ pub struct Ticked {
     pub next: Generator,
 }
 
-impl Generator {
-    // Before the first tick of PreEqualise, checksums at zero.
-    pub fn fresh() -> Generator
-        ensures generator { λ g. ⌜ g ≡ fresh ⌝ }
-    {
-        Generator {
-            half: HalfLines(0),
-            at: ScreenUnits(0),
-            seen: ScreenUnits(0),
-            held: 0,
-            asked: false,
-            sums: Sums::none(),
-        }
-    }
-}
-
 // A tick of a running generator.
-fn running_tick(r: Registers, g: Generator, memory: &[u8]) -> Ticked
+fn running_tick(r: Registers, g: Generator, t: Stand, memory: &[u8]) -> Ticked
     requires { ⌜ Runs r g ⌝ }
+    requires { ⌜ Stands r g t ⌝ }
     ensures ticked { λ n. ⌜ n ≡ tickOf r (now (memory .entry)) g ⌝ }
 {
-    let t = rows::stand_of(r, g);
     let dots = output::dots_of(r, g, t, memory);
     let sums = g.sums.after(t.moment.opens, t.shows, dots);
     let next = output::next_of(r, g, t, sums);
@@ -71,7 +31,7 @@ fn running_tick(r: Registers, g: Generator, memory: &[u8]) -> Ticked
     if refused {
         return Ticked {
             refusal: 20,
-            signals: output::silence(),
+            signals: signals::silence(),
             next: g,
         };
     }
@@ -83,32 +43,18 @@ fn running_tick(r: Registers, g: Generator, memory: &[u8]) -> Ticked
     }
 }
 
-// The next tick of a running generator lies in VDisplay, out of flyback.
-pub fn is_displaying(r: Registers, g: Generator) -> bool
-    requires { ⌜ Sound r g ⌝ }
-    ensures test { λ b. ⌜ b ≡ displaying r g ⌝ }
-{
-    let params = r.params;
-    let runs = control::is_running(r.control);
-    if runs {
-        let moment = lines::moment_of(params, false, g.half.0 as u32, 0);
-        return moment.vdisplay;
-    }
-    false
-}
-
 // One tick by value: its refusal or 0, what it puts out, and the generator after it.
 pub fn tick(r: Registers, g: Generator, memory: &[u8]) -> Ticked
     requires { ⌜ Sound r g ⌝ }
     ensures ticked { λ n. ⌜ n ≡ tickOf r (now (memory .entry)) g ⌝ }
 {
-    let runs = control::is_running(r.control);
-    if runs {
-        return running_tick(r, g, memory);
+    let t = stand::stand_of(r, g);
+    if t.runs {
+        return running_tick(r, g, t, memory);
     }
     Ticked {
         refusal: 23,
-        signals: output::silence(),
+        signals: signals::silence(),
         next: g,
     }
 }

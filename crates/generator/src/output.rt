@@ -1,15 +1,16 @@
 // What a tick puts out (01, "Lines and frames", "Rows and pixels"), and the generator that it leaves.
 ghost use mathlib.Core.Path.{_≡_};
 ghost use Prim.Native.Nat.{_<_};
-ghost use Rattle.generator.specs.Rows.{heldAddress};
-ghost use Rattle.generator.specs.Tick.{dotOf, dots, refuses20, silent, stepWith, signalsWith};
-ghost use Rattle.generator.specs.Stand.{Runs, Stands};
-use crate::Generator;
-use crate::Signals;
-use crate::rows::Stand;
-use pixel::Dot;
+ghost use Rattle.counters.specs.Rows.{heldAddress};
+ghost use Rattle.generator.specs.Tick.{dotOf, dots, refuses20, stepWith, signalsWith};
+ghost use Rattle.stand.specs.Stand.{Runs};
+ghost use Rattle.generator.specs.Stands.{Stands};
+use counters::Generator;
 use pixel::Sums;
 use registers::Registers;
+use signals::Dot;
+use signals::Signals;
+use stand::Stand;
 use units::HalfLines;
 use units::ScreenUnits;
 
@@ -80,33 +81,15 @@ pub fn signals_of(r: Registers, g: Generator, t: Stand, four: [Dot; 4]) -> Signa
     ensures signals { λ n. ⌜ n ≡ signalsWith r g four ⌝ }
 {
     let m = t.moment;
-    let request = crate::rows::is_request(r, g, t);
     let transfer = control::is_transferring(r.control) & t.transfer;
     Signals {
         sync: !m.low,
         vsync: !m.vsync,
         inactive: !m.vdisplay,
         blank: !t.shows,
-        request,
+        request: t.request,
         transfer,
         address: base::first(transfer, t.held, 0),
         dots: four,
-    }
-}
-
-// What a refused tick answers.
-pub fn silence() -> Signals
-    ensures signals { λ n. ⌜ n ≡ silent ⌝ }
-{
-    let black = Dot { colour: 0 };
-    Signals {
-        sync: false,
-        vsync: false,
-        inactive: false,
-        blank: false,
-        request: false,
-        transfer: false,
-        address: 0,
-        dots: [black, black, black, black],
     }
 }

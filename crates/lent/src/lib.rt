@@ -1,11 +1,11 @@
 // One tick with the generator lent: a call advances the record that its caller keeps.
 ghost use mathlib.Core.Path.{_≡_};
 ghost use Rattle.generator.specs.Tick.{tickOf};
-ghost use Rattle.generator.specs.Sound.{Sound};
+ghost use Rattle.counters.specs.Sound.{Sound};
 ghost use Rattle.lent.specs.Lent.{answered};
-use generator::Generator;
-use generator::Signals;
+use counters::Generator;
 use registers::Registers;
+use signals::Signals;
 
 // A tick's refusal or 0, and what it puts out.
 pub struct Answer {

@@ -2,7 +2,7 @@
 use Prim.Native.Nat.{ℕ}
 use mathlib.Core.Bool.{Bool, not, cond, _||_}
 use mathlib.Core.List.{List, [], _∷_}
-use Rattle.generator.specs.declared.Signals.{Signals}
+use Rattle.signals.specs.declared.Signals.{Signals}
 use Rattle.text.specs.Lines.{lineEnd}
 
 -- a level and the mark of its wire

@@ -3,7 +3,7 @@ ghost use mathlib.Core.Path.{_≡_};
 ghost use lib.ListN.{length};
 ghost use Rattle.room.specs.Room.{putText, putEnd, putTexts, putEnds};
 ghost use Rattle.levels.specs.Levels.{levelText, differ, levelChange, levelTexts, levelsDiffer};
-use generator::Signals;
+use signals::Signals;
 
 // A level and the mark of its wire.
 fn level_text(mark: u8, high: bool) -> [u8; 3]

@@ -7,8 +7,8 @@ use Rattle.map.specs.Map.{placeOf}
 use Rattle.registers.specs.File.{storeIn}
 use Rattle.map.specs.declared.Place.{Place}
 use Rattle.registers.specs.declared.Registers.{Registers}
-use Rattle.generator.specs.Tick.{fresh}
-use Rattle.generator.specs.declared.Generator.{Generator}
+use Rattle.counters.specs.Counters.{fresh}
+use Rattle.counters.specs.declared.Generator.{Generator}
 use Rattle.access.specs.Access.{writeRefusal}
 use Rattle.machine.specs.Rules.{starts, stored, written, readRefusal, valueAt, answered}
 use Rattle.machine.specs.declared.Machine.{Machine}

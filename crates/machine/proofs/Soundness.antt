@@ -13,9 +13,9 @@ use Rattle.registers.specs.File.{zeros, storeIn}
 use Rattle.map.specs.declared.Place.{Place}
 use Rattle.map.proofs.Laws.{control-open}
 use Rattle.registers.proofs.Laws.{control-stored, control-kept, params-kept, zeros-held, stored-held}
-use Rattle.generator.specs.Rows.{screen}
-use Rattle.generator.specs.Tick.{fresh}
-use Rattle.generator.specs.Sound.{Sound, Placed}
+use Rattle.counters.specs.Rows.{screen}
+use Rattle.counters.specs.Counters.{fresh}
+use Rattle.counters.specs.Sound.{Sound, Placed}
 use Rattle.generator.proofs.Kept.{fresh-placed, tick-sound}
 use Rattle.access.specs.Access.{startLimit, writeRefusal}
 use Rattle.machine.specs.Rules.{beginning, starts, stored, written, answered, advanced}

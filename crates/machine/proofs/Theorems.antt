@@ -14,9 +14,11 @@ use Rattle.map.specs.declared.Place.the-variants.{Control}
 use Rattle.registers.specs.declared.Registers.{Registers}
 use Rattle.map.proofs.Laws.{address-single}
 use Rattle.registers.proofs.Laws.{kept, back}
-use Rattle.generator.specs.Rows.{screen}
-use Rattle.generator.specs.Tick.{fresh, tickRefusal, tickOf, silent}
-use Rattle.generator.specs.declared.Generator.{Generator}
+use Rattle.counters.specs.Rows.{screen}
+use Rattle.counters.specs.Counters.{fresh}
+use Rattle.generator.specs.Tick.{tickRefusal, tickOf}
+use Rattle.signals.specs.Signals.{silent}
+use Rattle.counters.specs.declared.Generator.{Generator}
 use Rattle.access.specs.Access.{startLimit, writeRefusal}
 use Rattle.machine.specs.Rules.{stored, written, readRefusal, valueAt, answered, advanced}
 use Rattle.machine.specs.Calls.{Call, write, read, tick, after, afterAll, Spares, Untouched}

@@ -13,12 +13,12 @@ use Rattle.units.specs.declared.Screen.{Screen}
 use Rattle.registers.specs.declared.Registers.{Registers}
 use Rattle.memory.specs.Memory.{pixelShown}
 use Rattle.pixel.specs.Dot.{dotAt}
-use Rattle.pixel.specs.declared.Dot.{Dot}
+use Rattle.signals.specs.declared.Dot.{Dot}
 use Rattle.pixel.specs.declared.Sums.{Sums}
 use Rattle.lines.specs.Lines.{period, secondHalf, inLine, visible, opens, closes, nextHalf, nextAt}
-use Rattle.generator.specs.Rows.{screen, visibleAt, taken, transferAt, heldAddress, place, asks, leads, requestAt}
-use Rattle.generator.specs.Tick.{shows, dotOf, dots, refuses20, cleared, sumsAfter, seenAfter, stepWith, signalsWith, tickRefusal, tickOf}
-use Rattle.generator.specs.declared.Generator.{Generator}
+use Rattle.counters.specs.Rows.{screen, visibleAt, shows, taken, transferAt, heldAddress, place, asks, leads, requestAt}
+use Rattle.generator.specs.Tick.{dotOf, dots, refuses20, cleared, sumsAfter, seenAfter, stepWith, signalsWith, tickRefusal, tickOf}
+use Rattle.counters.specs.declared.Generator.{Generator}
 use Rattle.generator.specs.declared.Ticked.{Ticked}
 use Rattle.machine.specs.Alike.{SameMode, withLineStart, Alike, SameColours}
 

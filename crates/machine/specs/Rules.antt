@@ -11,8 +11,9 @@ use Rattle.registers.specs.File.{zeros, valueIn, storeIn}
 use Rattle.access.specs.Access.{refuses3, writeRefusal, checksumWords}
 use Rattle.map.specs.declared.Place.{Place}
 use Rattle.registers.specs.declared.Registers.{Registers}
-use Rattle.generator.specs.Rows.{screen}
-use Rattle.generator.specs.Tick.{displaying, tickOf, fresh}
+use Rattle.counters.specs.Rows.{screen}
+use Rattle.counters.specs.Counters.{displaying, fresh}
+use Rattle.generator.specs.Tick.{tickOf}
 use Rattle.machine.specs.declared.Machine.{Machine}
 use Rattle.machine.specs.declared.Written.{Written}
 use Rattle.machine.specs.declared.Answered.{Answered}

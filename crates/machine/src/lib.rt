@@ -1,11 +1,11 @@
 // The machine (01): registers and generator by value. Every call hands back the next machine beside its answer.
 ghost use mathlib.Core.Path.{_≡_};
-ghost use Rattle.generator.specs.Sound.{Sound};
+ghost use Rattle.counters.specs.Sound.{Sound};
 ghost use Rattle.machine.specs.Rules.{beginning, stored, written, readRefusal, valueAt, answered, advanced};
-use generator::Generator;
-use generator::Signals;
+use counters::Generator;
 use map::Place;
 use registers::Registers;
+use signals::Signals;
 
 pub struct Machine {
     pub regs: Registers,
@@ -40,7 +40,7 @@ fn read_refusal(m: Machine, p: Place) -> u32
     let regs = m.regs;
     let generator = m.generator;
     let busy = map::is_parameter(p) & control::is_running(regs.control);
-    let shown = map::is_checksum(p) & generator::is_displaying(regs, generator);
+    let shown = map::is_checksum(p) & counters::is_displaying(regs, generator);
     let n5 = base::first(shown, 5, 0);
     let n3 = base::first(busy, 3, n5);
     base::first(map::is_reserved(p), 2, n3)

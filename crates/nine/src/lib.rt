@@ -1,6 +1,6 @@
 // The nine checksum bytes of a machine (console.md, `nine`): its three checksum words.
 ghost use mathlib.Core.Path.{_≡_};
-ghost use Rattle.generator.specs.Sound.{Sound};
+ghost use Rattle.counters.specs.Sound.{Sound};
 ghost use Rattle.nine.specs.Nine.{nineOf};
 use machine::Machine;
 

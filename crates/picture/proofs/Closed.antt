@@ -18,15 +18,16 @@ use Rattle.screen.specs.Totals.{frameTicks, frameVisible}
 use Rattle.registers.specs.declared.Registers.{Registers}
 use Rattle.memory.specs.Memory.{bitsAt, pixelShown}
 use Rattle.colour.specs.Colour.{maskedPalette}
-use Rattle.pixel.specs.Dot.{codeShown, dotAt, black}
+use Rattle.pixel.specs.Dot.{codeShown, dotAt}
+use Rattle.signals.specs.Signals.{black}
 use Rattle.cursor.specs.Cursor.{over}
 use Rattle.pixel.specs.Sums.{none}
 use Rattle.pixel.specs.declared.Sums.{Sums}
 use Rattle.colour.proofs.Laws.{masked-palette-entry}
-use Rattle.generator.specs.Rows.{screen, place, asks}
+use Rattle.counters.specs.Rows.{screen, place, asks}
 use Rattle.generator.specs.Tick.{dotOf, after}
-use Rattle.generator.specs.Sound.{Sound}
-use Rattle.generator.specs.declared.Generator.{Generator}
+use Rattle.counters.specs.Sound.{Sound}
+use Rattle.counters.specs.declared.Generator.{Generator}
 use Rattle.frame.specs.Frame.{refusedWithin, rowAddress, addressAt, placeAt, dotFor, pixels, pictureRefuses20, sumsTo, frameEnd, Whole}
 use Rattle.frame.proofs.Whole.{whole}
 use Rattle.picture.specs.Picture.{refuses22, pictureRefusal, drawnOf, bufferOf}

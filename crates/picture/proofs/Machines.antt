@@ -7,10 +7,10 @@ use lib.Dec.{eqb}
 use borrow.Author.Tests.{eq-eqb}
 use Rattle.screen.specs.Totals.{frameTicks}
 use Rattle.registers.specs.declared.Registers.{Registers}
-use Rattle.generator.specs.Rows.{screen}
+use Rattle.counters.specs.Rows.{screen}
 use Rattle.generator.specs.Tick.{after}
-use Rattle.generator.specs.Sound.{Sound}
-use Rattle.generator.specs.declared.Generator.{Generator}
+use Rattle.counters.specs.Sound.{Sound}
+use Rattle.counters.specs.declared.Generator.{Generator}
 use Rattle.generator.proofs.Kept.{tick-sound}
 use Rattle.machine.specs.Rules.{advanced}
 use Rattle.machine.specs.declared.Machine.{Machine}

@@ -13,10 +13,10 @@ use Rattle.base.specs.Count.{some, run}
 use Rattle.base.proofs.Run.{run-same}
 use Rattle.control.specs.Control.{forcedBlank, transferring, pixelBits}
 use Rattle.memory.specs.Memory.{endsBeyond}
-use Rattle.pixel.specs.declared.Dot.{Dot}
+use Rattle.signals.specs.declared.Dot.{Dot}
 use Rattle.pixel.specs.declared.Sums.{Sums}
 use Rattle.memory.proofs.Laws.{ends-beyond-later}
-use Rattle.generator.proofs.Bounds.{place-in}
+use Rattle.stand.proofs.Bounds.{place-in}
 use Rattle.span.specs.Span.{Painted, coveredDot, Covered, fitted}
 use Rattle.picture.specs.Plan.{Sized, addressIn, placeIn, dotIn, refusesIn, Cut}
 use Rattle.picture.specs.declared.rows.Plan.{Plan}

@@ -9,9 +9,9 @@ use Rattle.control.specs.Control.{running}
 use Rattle.screen.specs.Totals.{frameTicks, framePixels}
 use Rattle.registers.specs.declared.Registers.{Registers}
 use Rattle.span.specs.Span.{bytesOf}
-use Rattle.generator.specs.Rows.{screen}
+use Rattle.counters.specs.Rows.{screen}
 use Rattle.generator.specs.Tick.{after}
-use Rattle.generator.specs.declared.Generator.{Generator}
+use Rattle.counters.specs.declared.Generator.{Generator}
 use Rattle.frame.specs.Frame.{drawn, refusedWithin}
 use Rattle.picture.specs.declared.Drawn.{Drawn}
 

@@ -10,12 +10,12 @@ ghost use lib.ListN.{length, replicate};
 ghost use Rattle.base.specs.Count.{run};
 ghost use Rattle.screen.specs.Totals.{frameVisible};
 ghost use Rattle.span.specs.Span.{bytesOf};
-ghost use Rattle.generator.specs.Rows.{screen};
-ghost use Rattle.generator.specs.Sound.{Sound};
+ghost use Rattle.counters.specs.Rows.{screen};
+ghost use Rattle.counters.specs.Sound.{Sound};
 ghost use Rattle.frame.specs.Frame.{pixels, dotFor, sumsTo};
 ghost use Rattle.picture.specs.Picture.{pictureRefusal, drawnOf, bufferOf};
 ghost use Rattle.picture.specs.Plan.{Ready, planOf};
-use generator::Generator;
+use counters::Generator;
 use pixel::Sums;
 use registers::Registers;
 

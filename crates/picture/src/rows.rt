@@ -8,7 +8,7 @@ ghost use Rattle.memory.specs.Memory.{endsBeyond};
 ghost use Rattle.pixel.specs.Sums.{none};
 ghost use Rattle.span.specs.Span.{Painted};
 ghost use Rattle.picture.specs.Plan.{Ready, planOf, Sized, addressIn, placeIn, dotIn, refusesIn, endIn, Cut};
-use generator::Generator;
+use counters::Generator;
 use pixel::Sums;
 use registers::Registers;
 use span::Stretch;

@@ -8,7 +8,7 @@ use Rattle.cursor.specs.Cursor.{cursorCode, over}
 use Rattle.colour.specs.Colour.{maskedColour}
 use Rattle.memory.specs.Memory.{pixelShown}
 use Rattle.pixel.specs.Dot.{dotAt}
-use Rattle.pixel.specs.declared.Dot.{Dot}
+use Rattle.signals.specs.declared.Dot.{Dot}
 use Rattle.registers.specs.declared.Registers.{Registers}
 
 -- a dot from its parts

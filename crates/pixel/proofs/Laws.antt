@@ -4,9 +4,9 @@ use mathlib.Core.Path.{_≡_, refl, _∙_}
 use mathlib.Core.List.{List, [], _∷_, _++_}
 use native.Mathlib.Omega.{arith}
 use lib.ListN.{length, getD}
-use Rattle.pixel.specs.Dot.{black}
+use Rattle.signals.specs.Signals.{black}
 use Rattle.pixel.specs.Sums.{none, added, summed, clearedAt, summedWhere}
-use Rattle.pixel.specs.declared.Dot.{Dot}
+use Rattle.signals.specs.declared.Dot.{Dot}
 use Rattle.pixel.specs.declared.Sums.{Sums}
 
 -- the sums of two lists of dots, one after the other

@@ -7,7 +7,7 @@ use Rattle.registers.specs.declared.Registers.{Registers}
 use Rattle.memory.specs.Memory.{pixelShown}
 use Rattle.colour.specs.Colour.{maskedColour}
 use Rattle.cursor.specs.Cursor.{cursorCode, over}
-use Rattle.pixel.specs.declared.Dot.{Dot}
+use Rattle.signals.specs.declared.Dot.{Dot}
 
 -- the code of the cursor at pixel x of line y, where it is switched on; its position is a parameter of the rule
 abbrev pub codeShown : Registers → ℕ → ℕ → ℕ → ℕ
@@ -20,6 +20,3 @@ dotAt r position memory place x y =
       colour =
           over (r .colours) (codeShown r position x y) (maskedColour (r .palette) (r .mask) (pixelShown (r .control) memory place));
     }
-
-abbrev pub black : Dot
-black = record { colour = 0 }

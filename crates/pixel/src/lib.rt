@@ -3,11 +3,7 @@ ghost use mathlib.Core.Path.{_≡_};
 ghost use mathlib.Core.Bool.{cond};
 ghost use Rattle.pixel.specs.Dot.{dotAt};
 ghost use Rattle.pixel.specs.Sums.{none, added, clearedAt, summedWhere};
-
-// A pixel that goes out: its colour, red in bits 23 to 16, green, blue.
-pub struct Dot {
-    pub colour: u32,
-}
+use signals::Dot;
 
 // The three 24-bit sums of colour bytes.
 pub struct Sums {

@@ -9,7 +9,7 @@ use Rattle.room.specs.Room.{putTexts, putEnds}
 use Rattle.says.specs.Notes.{refusedTexts}
 use Rattle.says.specs.Answers.{lineTexts}
 use Rattle.wave.specs.Waveform.{tickTexts}
-use Rattle.generator.specs.declared.Signals.{Signals}
+use Rattle.signals.specs.declared.Signals.{Signals}
 use Rattle.report.specs.declared.Page.{Page}
 use Rattle.report.specs.Pages.{verdictTexts, stepTexts}
 

@@ -3,8 +3,8 @@ use Prim.Native.Nat.{ℕ, _+_}
 use mathlib.Core.Bool.{Bool, cond}
 use mathlib.Core.List.{List, [], _∷_, _++_}
 use lib.Dec.{ltb, eqb}
-use Rattle.generator.specs.Tick.{silent}
-use Rattle.generator.specs.declared.Signals.{Signals}
+use Rattle.signals.specs.Signals.{silent}
+use Rattle.signals.specs.declared.Signals.{Signals}
 use Rattle.text.specs.Ascii.{ascii}
 use Rattle.says.specs.Notes.{refusedTexts}
 use Rattle.says.specs.Answers.{lineTexts}

@@ -3,13 +3,12 @@ ghost use mathlib.Core.Path.{_≡_};
 ghost use mathlib.Core.Bool.{cond};
 ghost use lib.Dec.{ltb};
 ghost use Rattle.room.specs.Room.{putTexts, putEnds};
-ghost use Rattle.generator.specs.Tick.{silent};
 ghost use Rattle.says.specs.Notes.{refusedTexts, faultTexts};
 ghost use Rattle.report.specs.Pages.{blankPage, turned, counted, verdictTexts, stepTexts};
-use generator::Signals;
 use says::ANSWERS;
 use says::PICTURE;
 use says::WAVE;
+use signals::Signals;
 
 // The form; the bytes that wait to be written; the ticks so far and what the last one put out; the last picture's size, 0 before one.
 pub struct Page {
@@ -21,28 +20,11 @@ pub struct Page {
     pub height: u64,
 }
 
-// What no tick has put out.
-fn nothing() -> Signals
-    ensures signals { λ s. ⌜ s ≡ silent ⌝ }
-{
-    let black = pixel::Dot { colour: 0 };
-    Signals {
-        sync: false,
-        vsync: false,
-        inactive: false,
-        blank: false,
-        request: false,
-        transfer: false,
-        address: 0,
-        dots: [black; 4],
-    }
-}
-
 // Before a script's first line.
 pub fn blank_page(form: u32) -> Page
     ensures page { λ r. ⌜ r ≡ blankPage form ⌝ }
 {
-    let last = nothing();
+    let last = signals::silence();
     Page {
         form,
         waiting: 0,

@@ -2,7 +2,7 @@
 use Prim.Native.Nat.{ℕ}
 use mathlib.Core.List.{List, [], _∷_, _++_}
 use lib.ListN.{getD}
-use Rattle.generator.specs.declared.Signals.{Signals}
+use Rattle.signals.specs.declared.Signals.{Signals}
 use Rattle.text.specs.Ascii.{ascii}
 use Rattle.text.specs.Lines.{lineEnd}
 use Rattle.phrases.specs.Phrases.{levelTexts, addressTexts, colourTexts}

@@ -2,10 +2,10 @@
 ghost use mathlib.Core.Path.{_≡_};
 ghost use Rattle.room.specs.Room.{putTexts, putEnds};
 ghost use Rattle.says.specs.Answers.{dotsTexts, lineTexts};
-use generator::Signals;
 use phrases::put_colour;
 use phrases::put_level;
 use room::put;
+use signals::Signals;
 
 // The four pixels of a tick, and the line's end.
 fn put_colours(room: &mut [u8], at: usize, s: Signals) -> usize

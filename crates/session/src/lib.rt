@@ -2,7 +2,7 @@
 ghost use Prim.Native.Nat.{_≤_};
 ghost use mathlib.Core.Path.{_≡_};
 ghost use lib.ListN.{length, take};
-ghost use Rattle.generator.specs.Sound.{Sound};
+ghost use Rattle.counters.specs.Sound.{Sound};
 ghost use Rattle.acts.specs.Machines.{ranOf};
 ghost use Rattle.keep.specs.Keep.{keptMemory};
 ghost use Rattle.deeds.specs.Deeds.{ticksOf, doneOf, pictureAfter};
@@ -54,7 +54,7 @@ fn picture_room() -> [u8; PICTURE_BYTES] {
 }
 
 // One tick's signals, or its refusal.
-fn told(p: Page, out: &mut [u8; ROOM], line: u64, refusal: u32, s: generator::Signals) -> Page {
+fn told(p: Page, out: &mut [u8; ROOM], line: u64, refusal: u32, s: signals::Signals) -> Page {
     let page = report::space(p, out);
     if refusal == 0 {
         return report::tick(page, out, s);

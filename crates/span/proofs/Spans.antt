@@ -10,7 +10,7 @@ use Rattle.base.specs.Count.{run}
 use Rattle.base.proofs.Run.{run-length, run-append, run-same}
 use Rattle.colour.specs.Colour.{red, green, blue}
 use Rattle.pixel.specs.Sums.{summed}
-use Rattle.pixel.specs.declared.Dot.{Dot}
+use Rattle.signals.specs.declared.Dot.{Dot}
 use Rattle.pixel.specs.declared.Sums.{Sums}
 use Rattle.pixel.proofs.Laws.{summed-join}
 use Rattle.span.specs.Span.{bytesOf, Painted, plainDot, codeOver, dotThrough, coveredDot, Clipped}

@@ -12,7 +12,7 @@ use Rattle.memory.specs.Memory.{pixelShown}
 use Rattle.colour.specs.Colour.{red, green, blue}
 use Rattle.cursor.specs.Cursor.{cursorCode, over}
 use Rattle.pixel.specs.Sums.{summed}
-use Rattle.pixel.specs.declared.Dot.{Dot}
+use Rattle.signals.specs.declared.Dot.{Dot}
 use Rattle.pixel.specs.declared.Sums.{Sums}
 use Rattle.span.specs.declared.Columns.{Columns}
 use Rattle.span.specs.declared.Stretch.{Stretch}

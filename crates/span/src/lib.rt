@@ -5,8 +5,8 @@ ghost use Prim.Native.Nat.{_+_, _-_, _*_, _≤_, min};
 ghost use lib.ListN.{length};
 ghost use Rattle.base.specs.Count.{run};
 ghost use Rattle.span.specs.Span.{Painted, plainColour, plainDot, coveredDot, Covered, fitted, Small, Inside, Clipped};
-use pixel::Dot;
 use pixel::Sums;
+use signals::Dot;
 
 // Pixels in a row: where the first is stored, its place in the memory, its column and its line, and how many there are.
 pub struct Stretch {

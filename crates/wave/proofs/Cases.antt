@@ -7,7 +7,7 @@ use Rattle.room.specs.Room.{putTexts, putEnds}
 use Rattle.levels.specs.Levels.{levelsDiffer}
 use Rattle.buses.specs.Buses.{busesDiffer}
 use Rattle.wave.specs.Waveform.{wireTexts, tickTexts}
-use Rattle.generator.specs.declared.Signals.{Signals}
+use Rattle.signals.specs.declared.Signals.{Signals}
 
 module _ (first : Bool) (k : ℕ) (before s : Signals) (levels buses : Bool) (el : levels ≡ levelsDiffer before s) (eb : buses ≡ busesDiffer before s) where
   pub tick-written : (first || (levels || buses)) ≡ true → tickTexts first k before s ≡ wireTexts first k before s

@@ -2,7 +2,7 @@
 use Prim.Native.Nat.{ℕ}
 use mathlib.Core.Bool.{Bool, cond, _||_}
 use mathlib.Core.List.{List, [], _∷_, _++_}
-use Rattle.generator.specs.declared.Signals.{Signals}
+use Rattle.signals.specs.declared.Signals.{Signals}
 use Rattle.text.specs.Ascii.{ascii}
 use Rattle.text.specs.Lines.{countTexts}
 use Rattle.levels.specs.Levels.{levelTexts, levelsDiffer}

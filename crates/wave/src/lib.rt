@@ -3,7 +3,7 @@ ghost use mathlib.Core.Path.{_≡_};
 ghost use lib.ListN.{length};
 ghost use Rattle.room.specs.Room.{putText, putEnd, putTexts, putEnds};
 ghost use Rattle.wave.specs.Waveform.{wireTexts, tickTexts, headText};
-use generator::Signals;
+use signals::Signals;
 
 // A tick that is written: the first with every wire.
 fn put_wires(room: &mut [u8], at: usize, first: bool, k: u64, b: Signals, s: Signals) -> usize

@@ -12,12 +12,12 @@ use Rattle.cursor.specs.Cursor
 use Rattle.pixel.specs.Dot
 use Rattle.pixel.specs.Sums
 use Rattle.lines.specs.Lines
-use Rattle.generator.specs.Rows
+use Rattle.counters.specs.Rows
 use Rattle.generator.specs.Tick
 use Rattle.access.specs.Access
 use Rattle.machine.specs.Rules
 use Rattle.worked.specs.Bench.{writes, started, puts, those, ticks, starred, Holds}
 
 pub starred-rows : Holds starred
-unfolding writes started puts those ticks starred Count.some Count.run Parameters.screenOf Limits.laterLimit Limits.limitOf Totals.totalsOf Map.placeOf File.zeros File.valueIn File.storeIn Memory.bitsAt Memory.pixelShown Colour.maskedColour Cursor.cursorCode Dot.dotAt Sums.summed Lines.period Lines.secondHalf Lines.inLine Lines.visible Lines.opens Lines.closes Lines.nextHalf Lines.nextAt Rows.visibleAt Rows.taken Rows.transferAt Rows.heldAddress Rows.place Rows.asks Rows.leads Rows.requestAt Tick.shows Tick.dotOf Tick.dots Tick.refuses20 Tick.cleared Tick.sumsAfter Tick.seenAfter Tick.stepWith Tick.signalsWith Tick.tickRefusal Tick.tickOf Access.startLimit Access.writeRefusal Rules.stored Rules.written Rules.advanced
+unfolding writes started puts those ticks starred Count.some Count.run Parameters.screenOf Limits.laterLimit Limits.limitOf Totals.totalsOf Map.placeOf File.zeros File.valueIn File.storeIn Memory.bitsAt Memory.pixelShown Colour.maskedColour Cursor.cursorCode Dot.dotAt Sums.summed Lines.period Lines.secondHalf Lines.inLine Lines.visible Lines.opens Lines.closes Lines.nextHalf Lines.nextAt Rows.visibleAt Rows.taken Rows.transferAt Rows.heldAddress Rows.place Rows.asks Rows.leads Rows.requestAt Rows.shows Tick.dotOf Tick.dots Tick.refuses20 Tick.cleared Tick.sumsAfter Tick.seenAfter Tick.stepWith Tick.signalsWith Tick.tickRefusal Tick.tickOf Access.startLimit Access.writeRefusal Rules.stored Rules.written Rules.advanced
 starred-rows = (refl, (refl, (refl, (refl, (refl, (refl, (refl, (refl, (refl, (refl, (refl, (refl, (refl, (refl, (refl, tt)))))))))))))))

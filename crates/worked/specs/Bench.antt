@@ -10,7 +10,7 @@ use Rattle.limits.specs.Limits.{limitOf}
 use Rattle.screen.specs.Totals.{totalsOf}
 use Rattle.screen.specs.declared.Totals.{Totals}
 use Rattle.colour.specs.Colour.{maskedColour}
-use Rattle.generator.specs.declared.Signals.{Signals}
+use Rattle.signals.specs.declared.Signals.{Signals}
 use Rattle.machine.specs.Rules.{beginning, written, advanced}
 use Rattle.machine.specs.declared.Machine.{Machine}
 

@@ -1,7 +1,7 @@
 -- `acts::run` meets its contract: each tick is one more of the run, and keeps the one condition.
 use Prim.Native.Nat.{_≤_, _-_}
 use mathlib.Core.Path.{_≡_, ap, _∙_}
-use Rattle.generator.specs.Sound.{Sound}
+use Rattle.counters.specs.Sound.{Sound}
 use Rattle.acts.specs.Machines.{ranOf}
 use Rattle.acts.specs.declared.Ran.{Ran}
 use Rattle.acts.proofs.Running.{ran-first, ran-next, ran-refused}

@@ -47,12 +47,12 @@ use denote.Exit.{yes}
 use Rattle.registers.specs.declared.Registers.{Registers}
 use Rattle.registers.proofs.Registers as R
 use Rattle.registers.proofs.Registers.Laws as R′
-use Rattle.generator.specs.declared.Generator.{Generator}
+use Rattle.counters.specs.declared.Generator.{Generator}
 use Rattle.generator.specs.declared.Ticked.{Ticked}
 use Rattle.generator.specs.Tick.{tickOf}
-use Rattle.generator.specs.Sound.{Sound}
-use Rattle.generator.proofs.Generator as G
-use Rattle.generator.proofs.Generator.Laws as G′
+use Rattle.counters.specs.Sound.{Sound}
+use Rattle.counters.proofs.Generator as G
+use Rattle.counters.proofs.Generator.Laws as G′
 use Rattle.generator.proofs.Ticked as T
 use Rattle.generator.proofs.Ticked.Laws as T′
 use Rattle.lent.specs.declared.Answer.{Answer}

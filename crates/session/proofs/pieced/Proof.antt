@@ -1,7 +1,7 @@
 -- `session::pieced` is safe, ends and keeps the one condition: each turn takes a byte.
 use Prim.Native.Nat.{_-_}
 use lib.ListN.{length}
-use Rattle.generator.specs.Sound.{Sound}
+use Rattle.counters.specs.Sound.{Sound}
 use borrow.Author.Needs.{needs}
 use Rattle.session.proofs.pieced.Statement.{statement}
 use Rattle.session.proofs.pieced.Tie as tie

@@ -3,7 +3,7 @@ use Prim.Native.Nat.{_+_, _*_, _-_, _≤_}
 use mathlib.Core.Path.{_≡_}
 use native.Mathlib.Omega.{arith}
 use Rattle.base.specs.Count.{run}
-use Rattle.pixel.specs.declared.Dot.{Dot}
+use Rattle.signals.specs.declared.Dot.{Dot}
 use Rattle.span.specs.Span.{Painted, dotThrough, coveredDot}
 use Rattle.span.proofs.Spans.{painted-none, painted-turn, painted-length, dot-run}
 use Rattle.span.proofs.draw_under.Statement.{statement}

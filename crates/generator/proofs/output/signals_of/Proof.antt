@@ -1,5 +1,4 @@
 -- `generator::output::signals_of` meets its contract: each signal by its own call, joined by one law.
-use borrow.Author.Needs.{needs}
 use Rattle.generator.proofs.Puts.{signals-by}
 use Rattle.generator.proofs.output.signals_of.Statement.{statement}
 use Rattle.generator.proofs.output.signals_of.Tie as tie
@@ -8,13 +7,11 @@ pub signals-of-spec : {M : Type 1} → statement M
 signals-of-spec =
     tie.close
     (tie.spec
-    (λ c κs. search needs)
     (λ c κs. tt)
     (λ c κs. tt)
     (λ c.
     let on = c .before .before .before .before .before .before in
-    let start = on .before .before .before in
-    signals-by (start .args .r) (start .args .g) (start .args .t) (start .pre .1) _ _ _ _
-    (on .before .is-request .ensures)
+    let start = on .before .before in
+    signals-by (start .args .r) (start .args .g) (start .args .t) (start .pre .1) _ _ _
     (on .is-transferring .ensures)
     (c .first .ensures)))

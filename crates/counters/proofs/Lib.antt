@@ -1,0 +1,2 @@
+-- Laws of the generator record.
+pub mod Shown

@@ -1,0 +1,21 @@
+-- Where a tick stands, as the code holds it between its steps. Assumes nothing.
+use Prim.Native.Nat.{ℕ, _^_, _<_}
+use mathlib.Core.Bool.{Bool}
+use mathlib.Core.Path.{_≡_}
+use Rattle.control.specs.Control.{plain}
+use Rattle.registers.specs.declared.Registers.{Registers}
+use Rattle.lines.specs.Lines.{momentOf}
+use Rattle.counters.specs.Rows.{screen, shows, transferAt, heldAddress, place, asks, requestAt}
+use Rattle.counters.specs.declared.Generator.{Generator}
+use Rattle.stand.specs.declared.Stand.{Stand}
+
+pub record Stands (r : Registers) (g : Generator) (t : Stand) : Type 0 where
+  pub screen-is : t .screen ≡ screen r
+  pub moment-is : t .moment ≡ momentOf (screen r) (plain (r .control)) (g .half .0) (g .at .0)
+  pub transfer-is : t .transfer ≡ transferAt r g
+  pub held-is : t .held ≡ heldAddress r g
+  pub asking-is : t .asking ≡ asks (r .control) (screen r) (g .seen .0)
+  pub request-is : t .request ≡ requestAt r g
+  pub shows-is : t .shows ≡ shows r g
+  pub place-is : t .place ≡ place r (heldAddress r g) (g .seen .0) 0
+  pub place-in : t .place < 2 ^ 60

@@ -1,0 +1,2 @@
+-- What goes out at a tick.
+pub mod Signals

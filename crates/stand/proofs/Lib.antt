@@ -1,0 +1,3 @@
+-- Laws of where a tick stands.
+pub mod Bounds
+pub mod Stands

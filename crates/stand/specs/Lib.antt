@@ -1,0 +1,2 @@
+-- Where a tick stands.
+pub mod Stand
