@@ -1,8 +1,10 @@
 -- What the code finds of a place is its moment, and a screen that was read from registers has counts of 32 bits. Assumes nothing.
 use Prim.Native.Nat.{ℕ, _+_, _*_, _/_, _%_, _^_, _<_}
-use mathlib.Core.Bool.{Bool, cond, _&&_}
+use mathlib.Core.Bool.{Bool, true, false, cond, _&&_}
 use mathlib.Core.List.{List}
-use mathlib.Core.Path.{_≡_}
+use mathlib.Core.Path.{_≡_, refl}
+use native.Mathlib.Omega.{arith}
+use borrow.Author.Tests.{ltb-true, ltb-false, le-leb, lt-leb}
 use mir.Syntax.{w32}
 use mir.Val.{Fits}
 use lib.Dec.{ltb, leb, eqb}
@@ -42,18 +44,42 @@ narrow params f s e =
       linetime = f 10 .fits;
     })
 
+-- two of the periods by their ends
+module _ (s : Screen) (half : ℕ) where
+  in-vsync : (leb (s .vpreequalise .0) half && ltb half (s .vpreequalise .0 + s .vsync .0)) ≡ isVSync (period s half)
+  unfolding period
+  in-vsync = go (ltb half (s .vpreequalise .0)) refl (ltb half (s .vpreequalise .0 + s .vsync .0)) (ltb half (halvesToVBlank s)) (ltb half (halvesToVDisplay s))
+    where
+      go : (a : Bool) → ltb half (s .vpreequalise .0) ≡ a → (b c d : Bool) → (leb (s .vpreequalise .0) half && b) ≡ isVSync (cond a PreEqualise (cond b VSync (cond c PostEqualise (cond d VBlank VDisplay))))
+      go true e b c d = simp (lt-leb (s .vpreequalise .0) half (ltb-true _ _ e))
+      go false e true c d = simp (le-leb (s .vpreequalise .0) half (ltb-false _ _ e))
+      go false e false true d = simp (le-leb (s .vpreequalise .0) half (ltb-false _ _ e))
+      go false e false false true = simp (le-leb (s .vpreequalise .0) half (ltb-false _ _ e))
+      go false e false false false = simp (le-leb (s .vpreequalise .0) half (ltb-false _ _ e))
+
+  in-vdisplay : leb (halvesToVDisplay s) half ≡ isVDisplay (period s half)
+  unfolding period
+  in-vdisplay = go (ltb half (s .vpreequalise .0)) refl (ltb half (s .vpreequalise .0 + s .vsync .0)) refl (ltb half (halvesToVBlank s)) refl (ltb half (halvesToVDisplay s)) refl
+    where
+      go : (a : Bool) → ltb half (s .vpreequalise .0) ≡ a → (b : Bool) → ltb half (s .vpreequalise .0 + s .vsync .0) ≡ b → (c : Bool) → ltb half (halvesToVBlank s) ≡ c → (d : Bool) → ltb half (halvesToVDisplay s) ≡ d →
+          leb (halvesToVDisplay s) half ≡ isVDisplay (cond a PreEqualise (cond b VSync (cond c PostEqualise (cond d VBlank VDisplay))))
+      go true ea b eb c ec d ed = lt-leb (halvesToVDisplay s) half (omega (arith, ltb-true half (s .vpreequalise .0) ea))
+      go false ea true eb c ec d ed = lt-leb (halvesToVDisplay s) half (omega (arith, ltb-true half (s .vpreequalise .0 + s .vsync .0) eb))
+      go false ea false eb true ec d ed = lt-leb (halvesToVDisplay s) half (omega (arith, ltb-true half (halvesToVBlank s) ec))
+      go false ea false eb false ec true ed = lt-leb (halvesToVDisplay s) half (ltb-true _ _ ed)
+      go false ea false eb false ec false ed = le-leb (halvesToVDisplay s) half (ltb-false _ _ ed)
+
 module _ (s : Screen) (plain : Bool) (half at : ℕ)
     (tick : ℕ) (tick-is : tick ≡ cond (eqb ((half + halvesToVBlank s) % 2) 1) (halfTicks s + at) at)
     (p : Period)
     (period-is : p ≡ cond (ltb half (s .vpreequalise .0)) PreEqualise (cond (ltb half (s .vpreequalise .0 + s .vsync .0)) VSync (cond (ltb half (halvesToVBlank s)) PostEqualise (cond (ltb half (halvesToVDisplay s)) VBlank VDisplay))))
-    (vs vd low : Bool) (vd-is : vd ≡ isVDisplay p)
     (next : ℕ) (next-is : next ≡ cond (ltb (half + 1) (halvesInFrame s)) (half + 1) 0)
-    (vs-is : vs ≡ isVSync p) (low-is : low ≡ lowIn plain (s .halfsync .0) (s .broadpulse .0) p at tick)
+    (low : Bool) (low-is : low ≡ lowIn plain (s .halfsync .0) (s .broadpulse .0) p at tick)
     (later after : ℕ) (later-is : later ≡ cond (ltb (at + 1) (halfTicks s)) half next) (after-is : after ≡ cond (ltb (at + 1) (halfTicks s)) (at + 1) 0) where
   pub moment-by : (params : List ℕ) → s ≡ screenOf params → record {
-    vsync = vs;
-    vdisplay = vd;
-    visible = vd && (leb (displayFrom s) tick && ltb tick (displayFrom s + s .display .0));
+    vsync = leb (s .vpreequalise .0) half && ltb half (s .vpreequalise .0 + s .vsync .0);
+    vdisplay = leb (halvesToVDisplay s) half;
+    visible = leb (halvesToVDisplay s) half && (leb (displayFrom s) tick && ltb tick (displayFrom s + s .display .0));
     low = low;
     opens = eqb half (halvesToVDisplay s) && eqb at 0;
     closes = leb (halvesInFrame s) (half + 1) && leb (halfTicks s) (at + 1);
@@ -61,4 +87,4 @@ module _ (s : Screen) (plain : Bool) (half at : ℕ)
     at = after;
   } ≡ momentOf (screenOf params) plain half at
   unfolding period secondHalf inLine visible opens closes nextHalf nextAt momentOf
-  moment-by params e = rw (after-is, later-is, low-is, vs-is, next-is, vd-is, period-is, tick-is, e)
+  moment-by params e = rw (after-is, later-is, low-is, next-is, in-vsync s half, in-vdisplay s half, period-is, tick-is, e)

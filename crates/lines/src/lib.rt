@@ -4,7 +4,7 @@ ghost use mathlib.Core.Bool.{cond};
 ghost use Prim.Native.Nat.{_<_};
 ghost use lib.Dec.{ltb};
 ghost use Rattle.units.specs.Parameters.{screenOf};
-ghost use Rattle.lines.specs.Lines.{isVSync, isVDisplay, lowIn, momentOf};
+ghost use Rattle.lines.specs.Lines.{lowIn, momentOf};
 ghost use Rattle.lines.specs.declared.Period.the-variants.{PreEqualise, VSync, PostEqualise, VBlank, VDisplay};
 
 // The five periods, in frame order.
@@ -44,30 +44,6 @@ fn period_of(half: u64, pre: u64, sync: u64, post: u64, blank: u64) -> Period
     in_period(half < pre, Period::PreEqualise, low)
 }
 
-fn is_vsync(period: Period) -> bool
-    ensures test { λ r. ⌜ r ≡ isVSync period ⌝ }
-{
-    match period {
-        Period::PreEqualise => false,
-        Period::VSync => true,
-        Period::PostEqualise => false,
-        Period::VBlank => false,
-        Period::VDisplay => false,
-    }
-}
-
-fn is_vdisplay(period: Period) -> bool
-    ensures test { λ r. ⌜ r ≡ isVDisplay period ⌝ }
-{
-    match period {
-        Period::PreEqualise => false,
-        Period::VSync => false,
-        Period::PostEqualise => false,
-        Period::VBlank => false,
-        Period::VDisplay => true,
-    }
-}
-
 // Composite sync is low: at is the tick's number in its half line, tick in its line.
 fn is_low(plain: bool, period: Period, at: u64, tick: u64, halfsync: u64, broadpulse: u64) -> bool
     requires { ⌜ halfsync < 0x100000000 ⌝ }
@@ -99,16 +75,19 @@ pub fn moment_of(params: [u32; 14], plain: bool, half: u32, at: u32) -> Moment
     let place = at as u64;
     let tick = base::choose((number + post) % 2 == 1, line + place, place);
     let period = period_of(number, pre, sync, post, blank);
-    let vdisplay = is_vdisplay(period);
-    let next = base::choose(number + 1 < frame, number + 1, 0);
+    let vdisplay = blank <= number;
+    let later = number + 1;
+    let after = place + 1;
+    let stays = after < line;
+    let next = base::choose(later < frame, later, 0);
     Moment {
-        vsync: is_vsync(period),
+        vsync: (pre <= number) & (number < sync),
         vdisplay,
         visible: vdisplay & ((from <= tick) & (tick < to)),
         low: is_low(plain, period, place, tick, s.halfsync.0, s.broadpulse.0),
         opens: (number == blank) & (place == 0),
-        closes: (frame <= number + 1) & (line <= place + 1),
-        half: base::choose(place + 1 < line, number, next),
-        at: base::choose(place + 1 < line, place + 1, 0),
+        closes: (frame <= later) & (line <= after),
+        half: base::choose(stays, number, next),
+        at: base::choose(stays, after, 0),
     }
 }

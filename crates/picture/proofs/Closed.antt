@@ -5,7 +5,7 @@ use mathlib.Core.List.{List}
 use mathlib.Core.Path.{_≡_, refl, sym, ap, _∙_}
 use native.Mathlib.Nat.{pow-suc}
 use native.Mathlib.Omega.{arith}
-use borrow.Author.Tests.{eqb-true, ne-eqb}
+use borrow.Author.Tests.{eqb-true, eq-eqb, ne-eqb}
 use lib.Dec.{eqb, leb, leb→le}
 use lib.ListN.{length, replicate}
 use lib.Pow.{pow-mono}
@@ -32,8 +32,10 @@ use Rattle.frame.specs.Frame.{refusedWithin, rowAddress, addressAt, placeAt, do
 use Rattle.frame.proofs.Whole.{whole}
 use Rattle.picture.specs.Picture.{refuses22, pictureRefusal, drawnOf, bufferOf}
 use Rattle.span.specs.Span.{bytesOf, Painted, dotThrough}
-use Rattle.picture.specs.Plan.{Ready, planOf, Sized, addressIn, placeIn, dotIn, refusesIn, endIn}
-use Rattle.picture.specs.declared.rows.Plan.{Plan}
+use Rattle.plan.specs.Plan.{planOf, Sized, fitted, addressIn, placeIn, dotIn, shownIn, refusesIn, leftIn}
+use Rattle.plan.specs.declared.Plan.{Plan}
+use Rattle.plan.proofs.Sizes.{fitted-whole}
+use Rattle.picture.specs.Ready.{Ready, endIn}
 use Rattle.span.proofs.Spans.{painted-whole}
 
 -- a pixel of the build's depths is a byte
@@ -75,13 +77,16 @@ module _ (r : Registers) (m : List ℕ) where
   unfolding planOf
   visible-link = refl
 
+  whole-link : Ready r → (p : Plan) → p ≡ planOf r → fitted p ≡ planOf r
+  whole-link ok p e = rw e (fitted-whole (planOf r) (sized r ok))
+
   refuses-link : refusesIn (planOf r) m ≡ pictureRefuses20 r m
   unfolding refusesIn planOf placeIn addressIn pictureRefuses20 placeAt place rowAddress
   refuses-link = refl
 
-  end-link : endIn (planOf r) (sumsTo r m (frameVisible (screen r))) ≡ frameEnd r m
-  unfolding endIn planOf addressIn frameEnd rowAddress asks
-  end-link = refl
+  end-link : Ready r → (p : Plan) → p ≡ planOf r → endIn p (sumsTo r m (frameVisible (screen r))) ≡ frameEnd r m
+  unfolding endIn leftIn planOf addressIn frameEnd rowAddress asks
+  end-link ok p e = rw (whole-link ok p e)
 
   -- the mask applied to the palette once is the mask applied to each pixel
   dot-same : (i : ℕ) → dotIn (planOf r) (maskedPalette (r .palette) (r .mask)) (r .store) (r .colours) m i ≡ dotOf r m (addressAt r (i / 4)) (i / 4) (i % 4)
@@ -112,13 +117,17 @@ module _ (r : Registers) (m : List ℕ) where
     unfolding sumsTo
     frame-black s before after z n a = (z ∙ simp e, a ∙ rw n (sym (black-bytes 0 (pixels r))))
 
-  pub frame-lit : forcedBlank (r .control) ≡ false → (p : Plan) → p ≡ planOf r → (table : List ℕ) → table ≡ maskedPalette (r .palette) (r .mask) → {before after : List ℕ} {s : Sums} → length before ≡ 3 * pixels r →
-      Painted before 0 none (run (dotIn p table (r .store) (r .colours) m) 0 (4 * p .visible)) after s → (s ≡ sumsTo r m (frameVisible (screen r))) × (after ≡ bytesOf (run (dotFor r m) 0 (pixels r)))
+  -- a buffer of the picture's size takes all of it
+  shown-link : (before : List ℕ) → length before ≡ 3 * pixels r → shownIn (planOf r) (length before) ≡ frameVisible (screen r)
+  shown-link before n = simp (eq-eqb (length before) (12 * planOf r .visible) (n ∙ rw visible-link (omega arith))) visible-link
+
+  pub frame-lit : forcedBlank (r .control) ≡ false → Ready r → (p : Plan) → p ≡ planOf r → (table : List ℕ) → table ≡ maskedPalette (r .palette) (r .mask) → {before after : List ℕ} {s : Sums} → length before ≡ 3 * pixels r →
+      Painted before 0 none (run (dotIn (fitted p) table (r .store) (r .colours) m) 0 (4 * shownIn (fitted p) (length before))) after s → (s ≡ sumsTo r m (frameVisible (screen r))) × (after ≡ bytesOf (run (dotFor r m) 0 (pixels r)))
   unfolding sumsTo
-  frame-lit e p ep table et {before} {after} {s} n d =
+  frame-lit e ok p ep table et {before} {after} {s} n d =
       let f = dotIn (planOf r) (maskedPalette (r .palette) (r .mask)) (r .store) (r .colours) m in
-      let same : run (dotIn p table (r .store) (r .colours) m) 0 (4 * p .visible) ≡ run (dotFor r m) 0 (pixels r) =
-      rw (ep, et) (ap (λ (n : ℕ). run f 0 (4 * n)) visible-link ∙ run-same f (dotFor r m) 0 0 (pixels r) (λ k l. dot-link e (0 + k))) in
+      let same : run (dotIn (fitted p) table (r .store) (r .colours) m) 0 (4 * shownIn (fitted p) (length before)) ≡ run (dotFor r m) 0 (pixels r) =
+      rw (whole-link ok p ep, et) (ap (λ (n : ℕ). run f 0 (4 * n)) (shown-link before n) ∙ run-same f (dotFor r m) 0 0 (pixels r) (λ k l. dot-link e (0 + k))) in
       let q : Painted before 0 none (run (dotFor r m) 0 (pixels r)) after s = rw same at d in
       (q .added ∙ simp e, painted-whole (dotFor r m) (pixels r) q n)
 
@@ -145,8 +154,8 @@ module _ (r : Registers) (g : Generator) (sound : Sound r g) (begins : refuses22
   ticks : (m : List ℕ) → Whole r m g
   ticks m = whole r m g sound (begun .0) (record { half = eqb-true _ _ (begun .1); at = eqb-true _ _ (begun .2) })
 
-  refused-link : (m : List ℕ) (p : Plan) → p ≡ planOf r → refusedWithin r m g (frameTicks (screen r)) ≡ refusesIn p m
-  refused-link m p e = ticks m .refusal ∙ rw e (sym (refuses-link r m))
+  refused-link : (m : List ℕ) (p : Plan) → p ≡ planOf r → refusedWithin r m g (frameTicks (screen r)) ≡ refusesIn (fitted p) m
+  refused-link m p e = ticks m .refusal ∙ rw (whole-link r m ready p e) (sym (refuses-link r m))
 
 -- the refusal: 22, and the later two
 module _ (r : Registers) (m : List ℕ) (g : Generator) (size : ℕ) (sound : Sound r g) (early : Bool) (ee : early ≡ refuses22 r g) where
@@ -154,7 +163,7 @@ module _ (r : Registers) (m : List ℕ) (g : Generator) (size : ℕ) (sound : So
   unfolding pictureRefusal
   refusal-22 t = simp (sym ee ∙ t)
 
-  pub refusal-later : early ≡ false → (p : Plan) → p ≡ planOf r → (far : Bool) → far ≡ refusesIn p m → (later n : ℕ) → later ≡ cond far 20 0 → n ≡ cond (not (eqb size (12 * p .visible))) 21 later → n ≡ pictureRefusal r m g size
+  pub refusal-later : early ≡ false → (p : Plan) → p ≡ planOf r → (far : Bool) → far ≡ refusesIn (fitted p) m → (later n : ℕ) → later ≡ cond far 20 0 → n ≡ cond (not (eqb size (12 * p .visible))) 21 later → n ≡ pictureRefusal r m g size
   unfolding pictureRefusal
   refusal-later f p ep far ef later n el en =
       simp (sym ee ∙ f, refused-link r g sound (sym ee ∙ f) m p ep) (en ∙ rw (el, ef, size-link r m p ep))
@@ -203,5 +212,5 @@ module _ (r : Registers) (m : List ℕ) (g : Generator) (before : List ℕ) (n :
           let w = ticks r g sound (clear .begins) m in
           let near = sym (w .refusal) ∙ clear .near in
           let zero = sym en ∙ z in
-          let end : next ≡ after r m g (frameTicks (screen r)) = ee ∙ rw (ep, es) (end-link r m) ∙ sym (w .end near) in
+          let end : next ≡ after r m g (frameTicks (screen r)) = ee ∙ rw es (end-link r m ready-free p ep) ∙ sym (w .end near) in
           (simp (zero, end), simp zero (ea ∙ ap bytesOf (sym (w .colours near))))

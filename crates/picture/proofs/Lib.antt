@@ -1,5 +1,4 @@
 -- Laws of a whole picture: for callers, and of its own proofs.
 pub mod Laws
-pub mod Segments
 pub mod Closed
 pub mod Machines

@@ -1,4 +1,4 @@
 -- A whole picture: its promise, and the definitions of the code that draws it.
 pub mod Picture
-pub mod Plan
+pub mod Ready
 pub mod Machines

@@ -1,5 +1,4 @@
 // A whole picture (01, "Refusal numbers", 20 to 22; "Rows and pixels"): a frame drawn at once, as its ticks draw it.
-mod rows;
 mod whole;
 
 pub use whole::Pictured;
@@ -14,10 +13,14 @@ ghost use Rattle.counters.specs.Rows.{screen};
 ghost use Rattle.counters.specs.Sound.{Sound};
 ghost use Rattle.frame.specs.Frame.{pixels, dotFor, sumsTo};
 ghost use Rattle.picture.specs.Picture.{pictureRefusal, drawnOf, bufferOf};
-ghost use Rattle.picture.specs.Plan.{Ready, planOf};
+ghost use Rattle.plan.specs.Plan.{planOf};
+ghost use Rattle.picture.specs.Ready.{Ready, endIn};
 use counters::Generator;
 use pixel::Sums;
+use plan::Plan;
 use registers::Registers;
+use units::HalfLines;
+use units::ScreenUnits;
 
 // The refusal, or 0, and the generator after the picture.
 pub struct Drawn {
@@ -34,9 +37,9 @@ fn refusal_of(r: Registers, g: Generator, memory: &[u8], size: u64) -> u32
     if !on | !((g.half.0 == 0) & (g.at.0 == 0)) {
         return 22;
     }
-    let p = rows::plan_of(r);
+    let p = plan::plan_of(r);
     let wrong = size != 12 * p.visible;
-    let far = rows::refuses_20(p, memory);
+    let far = plan::refuses_20(p, memory);
     base::first(wrong, 21, base::first(far, 20, 0))
 }
 
@@ -52,7 +55,7 @@ fn blacken(buffer: &mut [u8])
 }
 
 // The picture of a frame that nothing refuses, and its sums. Forced blank: black, nothing read, nothing added.
-fn draw_frame(r: Registers, p: rows::Plan, memory: &[u8], buffer: &mut [u8]) -> Sums
+fn draw_frame(r: Registers, p: Plan, memory: &[u8], buffer: &mut [u8]) -> Sums
     requires { ⌜ Ready r ⌝ }
     requires { ⌜ p ≡ planOf r ⌝ }
     requires { ⌜ length (now buffer) ≡ 3 * pixels r ⌝ }
@@ -68,7 +71,22 @@ fn draw_frame(r: Registers, p: rows::Plan, memory: &[u8], buffer: &mut [u8]) -> 
         return Sums::none();
     }
     let table = colour::masked_palette(&palette, r.mask);
-    rows::draw_rows(buffer, memory, p, &table, &store, &colours)
+    plan::draw_rows(buffer, memory, p, &table, &store, &colours)
+}
+
+// The generator at the frame's end, with these sums.
+fn end_of(p: Plan, sums: Sums) -> Generator
+    ensures end { λ g. ⌜ g ≡ endIn p sums ⌝ }
+{
+    let left = plan::left_by(p);
+    Generator {
+        half: HalfLines(0),
+        at: ScreenUnits(0),
+        seen: ScreenUnits(0),
+        held: left.held,
+        asked: left.asked,
+        sums,
+    }
 }
 
 // The picture of the frame that begins with the next tick, and the generator after it. A refusal leaves buffer and generator as they were.
@@ -79,9 +97,9 @@ pub fn draw(r: Registers, g: Generator, memory: &[u8], buffer: &mut [u8]) -> Dra
 {
     let refusal = refusal_of(r, g, memory, buffer.len() as u64);
     if refusal == 0 {
-        let p = rows::plan_of(r);
+        let p = plan::plan_of(r);
         let sums = draw_frame(r, p, memory, buffer);
-        let next = rows::end_of(p, sums);
+        let next = end_of(p, sums);
         return Drawn { refusal: 0, next };
     }
     Drawn { refusal, next: g }

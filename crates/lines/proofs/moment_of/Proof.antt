@@ -32,29 +32,20 @@ moment-of-spec =
     (λ c. let screen = c .before .before .before .before .before .before .before .before in omega (arith, counts screen, screen .before .fits))
     (λ c κs. tt)
     (λ c κs. tt)
+    (λ c. let screen = c .before .before .before .before .before .before .before .before .before .before in omega (arith, screen .before .fits))
+    (λ c. let screen = c .before .before .before .before .before .before .before .before .before .before in omega (arith, screen .before .fits))
     (λ c κs. tt)
-    (λ c. let screen = c .before .before .before .before .before .before .before .before .before .before .before in omega (arith, counts screen, screen .before .fits))
-    (λ c. let screen = c .before .before .before .before .before .before .before .before .before .before .before in omega (arith, counts screen, screen .before .fits))
+    (λ c κs. counts (c .before .before .before .before .before .before .before .before .before .before .before) .halfsync)
     (λ c κs. tt)
-    (λ c κs. tt)
-    (λ c κs. counts (c .before .before .before .before .before .before .before .before .before .before .before .before .before) .halfsync)
-    (λ c. let screen = c .before .before .before .before .before .before .before .before .before .before .before .before .before .before in omega (arith, counts screen, screen .before .fits))
-    (λ c. let screen = c .before .before .before .before .before .before .before .before .before .before .before .before .before .before in omega (arith, counts screen, screen .before .fits))
-    (λ c. let screen = c .before .before .before .before .before .before .before .before .before .before .before .before .before .before in omega (arith, counts screen, screen .before .fits))
-    (λ c κs. tt)
-    (λ c. let screen = c .before .before .before .before .before .before .before .before .before .before .before .before .before .before .before in omega (arith, counts screen, screen .before .fits))
-    (λ c. let screen = c .before .before .before .before .before .before .before .before .before .before .before .before .before .before .before in omega (arith, counts screen, screen .before .fits))
     (λ c κs. tt)
     (λ c.
     let low = c .before .before in
-    let shown = low .before .before .before in
-    let screen = shown .before .before .before .before .before .before .before .before .before .before .before in
+    let period = low .before .before in
+    let screen = period .before .before .before .before .before .before .before .before .before .before in
     moment-by (screen .screen-of .result) (screen .before .args .plain) (screen .before .args .half) (screen .before .args .at)
-    _ (shown .before .before .choose .ensures)
-    _ (shown .before .period-of .ensures)
-    _ _ _ (shown .is-vdisplay .ensures)
-    _ (low .before .before .choose2 .ensures)
-    (low .before .is-vsync .ensures)
-    (low .is-low .ensures)
+    _ (period .before .choose .ensures)
+    _ (period .period-of .ensures)
+    _ (low .before .choose2 .ensures)
+    _ (low .is-low .ensures)
     _ _ (c .before .choose3 .ensures) (c .choose4 .ensures)
     _ (screen .screen-of .ensures)))

@@ -1,13 +1,8 @@
 -- `picture::draw` meets its contract: a refusal changes nothing; else the frame in closed form, which is the ticks' own. Assumes nothing.
 use borrow.Author.Needs.{needs}
-use Rattle.picture.proofs.Closed.{ready-free, fits-free, sized-free, drawn-whole, refused-whole}
+use Rattle.picture.proofs.Closed.{ready-free, fits-free, drawn-whole, refused-whole}
 use Rattle.picture.proofs.draw.Statement.{statement}
 use Rattle.picture.proofs.draw.Tie as tie
-
-plan-of-requires : tie.Need-plan-of-requires
-plan-of-requires c κs =
-    let start = c .before .before .before .before in
-    ready-free (start .args .r) (start .args .memory .now) (start .args .g) (start .args .buffer .now) _ (c .before .refusal-of .ensures) (start .pre) (c .if1 .taken)
 
 draw-frame-requires : tie.Need-draw-frame-requires
 draw-frame-requires c κs =
@@ -20,13 +15,6 @@ draw-frame-requires c κs =
         fits-free (args .r) (args .memory .now) (args .g) (args .buffer .now) _ (go .before .refusal-of .ensures) (start .pre) (go .if1 .taken),
       ),
     )
-
-end-of-requires : tie.Need-end-of-requires
-end-of-requires c κs =
-    let plan = c .before .before .before .before in
-    let go = plan .before in
-    let start = go .before .before .before .before in
-    sized-free (start .args .r) (start .args .memory .now) (start .args .g) (start .args .buffer .now) _ (go .before .refusal-of .ensures) (start .pre) (go .if1 .taken) _ (plan .plan-of .ensures)
 
 returns : tie.Need-returns
 returns c =
@@ -47,9 +35,9 @@ draw-spec =
     tie.close
     (tie.spec
     (λ c κs. search needs)
-    plan-of-requires
+    (λ c κs. tt)
     draw-frame-requires
-    end-of-requires
+    (λ c κs. tt)
     (λ c. search needs)
     returns
     returns-2)

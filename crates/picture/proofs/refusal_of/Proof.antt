@@ -4,9 +4,9 @@ use mathlib.Core.Path.{_≡_, sym, _∙_}
 use native.Mathlib.Omega.{arith}
 use lib.Dec.{eqb}
 use Rattle.picture.specs.Picture.{refuses22}
-use Rattle.picture.specs.Plan.{Sized}
-use Rattle.picture.proofs.Segments.{visible-most}
-use Rattle.picture.proofs.Closed.{ready, plan-sized, refusal-22, refusal-later}
+use Rattle.plan.specs.Plan.{Sized}
+use Rattle.plan.proofs.Segments.{visible-most}
+use Rattle.picture.proofs.Closed.{plan-sized, refusal-22, refusal-later}
 use Rattle.picture.proofs.refusal_of.Statement.{statement}
 use Rattle.picture.proofs.refusal_of.Tie as tie
 
@@ -42,9 +42,9 @@ refusal-of-spec =
     (tie.spec
     (λ c κs. tt)
     returns
-    (λ c κs. let start = c .before .before .before .before .before in ready (start .args .r) (start .args .g) (start .pre) (begins c))
+    (λ c κs. tt)
     (λ c. omega (arith, visible-most _ (plan (c .before))))
-    (λ c κs. plan (c .before))
+    (λ c κs. tt)
     (λ c κs. tt)
     (λ c κs. tt)
     returns-2)

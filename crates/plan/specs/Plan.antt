@@ -1,37 +1,30 @@
--- A frame on plain numbers, as the code draws it: addresses, places, colours, segments, the end. Assumes nothing.
+-- A frame on plain numbers, as the code draws it: addresses, places, colours, segments, what is left. Assumes nothing.
 use Prim.Native.Nat.{ℕ, _+_, _-_, _*_, _/_, _%_, _^_, _≤_, _<_}
-use mathlib.Core.Bool.{Bool, not, _&&_}
+use mathlib.Core.Bool.{Bool, not, cond, _&&_}
 use mathlib.Core.List.{List}
 use mathlib.Core.Path.{_≡_}
-use lib.Dec.{leb}
+use lib.Dec.{leb, eqb}
 use Rattle.base.specs.Count.{some}
+use Rattle.base.specs.Sum.{capped}
 use Rattle.control.specs.Control.{forcedBlank, transferring, increment, pixelBits}
-use Rattle.units.specs.Parameters.{rowLength}
-use Rattle.limits.specs.Limits.{Accepted}
+use Rattle.units.specs.Parameters.{screenOf, rowLength}
 use Rattle.screen.specs.Totals.{frameVisible}
 use Rattle.registers.specs.declared.Registers.{Registers}
 use Rattle.memory.specs.Memory.{endsBeyond}
 use Rattle.signals.specs.declared.Dot.{Dot}
-use Rattle.pixel.specs.declared.Sums.{Sums}
-use Rattle.counters.specs.Rows.{screen}
-use Rattle.counters.specs.declared.Generator.{Generator}
 use Rattle.span.specs.Span.{dotThrough}
-use Rattle.picture.specs.declared.rows.Plan.{Plan}
+use Rattle.plan.specs.declared.Plan.{Plan}
+use Rattle.plan.specs.declared.Left.{Left}
 use Rattle.span.specs.declared.Stretch.{Stretch}
-
--- the part of the one condition that a picture uses
-pub record Ready (r : Registers) : Type 0 where
-  pub accepted : Accepted (r .control) (screen r)
-  pub top-in : r .top ≤ 0xFFFFFF
 
 unfoldable pub planOf : Registers → Plan
 planOf r =
     record {
-      display = screen r .display .0;
-      lines = screen r .vdisplay .0 / 2;
-      visible = frameVisible (screen r);
-      meminit = screen r .meminit .0;
-      row = rowLength (screen r);
+      display = screenOf (r .params) .display .0;
+      lines = screenOf (r .params) .vdisplay .0 / 2;
+      visible = frameVisible (screenOf (r .params));
+      meminit = screenOf (r .params) .meminit .0;
+      row = rowLength (screenOf (r .params));
       top = r .top;
       increment = increment (r .control);
       control = r .control;
@@ -51,6 +44,18 @@ pub record Sized (p : Plan) : Type 0 where
   pub increment : 0 < p .increment
   pub increment-most : p .increment ≤ 1024
 
+-- the same as a test
+abbrev pub sizes : Plan → Bool
+sizes p =
+    (((((leb 1 (p .display) && leb (p .display) 0xFFFFFF) && (leb 1 (p .lines) && leb (p .lines) 0xFFFFFF)) && eqb (p .visible) (capped (p .display * p .lines)))
+    && (leb 1 (p .row) && leb (p .row) (2 ^ 25))) && leb (p .top) 0xFFFFFF) && (leb 1 (p .increment) && leb (p .increment) 1024)
+
+-- any numbers may be given: those of a frame, and else of a single tick
+unfoldable pub fitted : Plan → Plan
+fitted p =
+    cond (sizes p) p
+    (record { display = 1; lines = 1; visible = 1; meminit = 1; row = 1; top = 0; increment = 1; control = p .control; position = p .position })
+
 -- the address held at visible tick v, and the place of visible pixel i
 unfoldable pub addressIn : Plan → ℕ → ℕ
 addressIn p v = (p .top + v / p .row * p .increment) % 2 ^ 24
@@ -63,20 +68,21 @@ unfoldable pub dotIn : Plan → List ℕ → List ℕ → List ℕ → List ℕ 
 dotIn p table store colours m i =
     dotThrough (p .control) (p .position) table store colours m (placeIn p i) (4 * (i / 4 % p .display) + i % 4) (i / 4 / p .display)
 
+-- visible ticks drawn into a buffer of that size
+abbrev pub shownIn : Plan → ℕ → ℕ
+shownIn p size = cond (eqb size (12 * p .visible)) (p .visible) 0
+
 unfoldable pub refusesIn : Plan → List ℕ → Bool
 refusesIn p m =
     not (forcedBlank (p .control))
     && (transferring (p .control) && some (λ i. endsBeyond (pixelBits (p .control)) m (placeIn p i)) (4 * p .visible))
 
-unfoldable pub endIn : Plan → Sums → Generator
-endIn p sums =
+-- what the last visible tick leaves
+unfoldable pub leftIn : Plan → Left
+leftIn p =
     record {
-      half = record { 0 = 0 };
-      at = record { 0 = 0 };
-      seen = record { 0 = 0 };
       held = addressIn p (p .visible - 1);
       asked = transferring (p .control) && leb (p .meminit) ((p .visible - 1) % p .row);
-      sums = sums;
     }
 
 -- the segment from visible tick v on, up to the line's end or the row's: four pixels for each of its ticks

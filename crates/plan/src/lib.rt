@@ -1,4 +1,4 @@
-// The rows of a frame (01, "Rows and pixels"): its numbers, its segments, refusal 20, the picture segment by segment, and the end.
+// The rows of a frame (01, "Rows and pixels"): its numbers, its segments, refusal 20, the picture segment by segment, and what its last tick leaves.
 ghost use mathlib.Core.Path.{_≡_};
 ghost use Prim.Native.Nat.{_*_, _^_, _<_};
 ghost use lib.ListN.{length};
@@ -7,13 +7,10 @@ ghost use Rattle.control.specs.Control.{pixelBits};
 ghost use Rattle.memory.specs.Memory.{endsBeyond};
 ghost use Rattle.pixel.specs.Sums.{none};
 ghost use Rattle.span.specs.Span.{Painted};
-ghost use Rattle.picture.specs.Plan.{Ready, planOf, Sized, addressIn, placeIn, dotIn, refusesIn, endIn, Cut};
-use counters::Generator;
+ghost use Rattle.plan.specs.Plan.{planOf, Sized, fitted, addressIn, placeIn, dotIn, shownIn, refusesIn, leftIn, Cut};
 use pixel::Sums;
 use registers::Registers;
 use span::Stretch;
-use units::HalfLines;
-use units::ScreenUnits;
 
 // The numbers of a frame: ticks of a line's Display, displayed lines, visible ticks, R, the first address and the step to the next.
 pub struct Plan {
@@ -29,7 +26,6 @@ pub struct Plan {
 }
 
 pub fn plan_of(r: Registers) -> Plan
-    requires { ⌜ Ready r ⌝ }
     ensures plan { λ p. ⌜ p ≡ planOf r ⌝ }
 {
     let params = r.params;
@@ -47,6 +43,38 @@ pub fn plan_of(r: Registers) -> Plan
         increment: increment as u64,
         control: r.control,
         position: r.position,
+    }
+}
+
+// What the last visible tick of a frame leaves: the address held and the request.
+pub struct Left {
+    pub held: u32,
+    pub asked: bool,
+}
+
+// The plan itself where 24 bits bound its numbers, and else that of a single tick.
+fn fitting(p: Plan) -> Plan
+    ensures plan { λ q. ⌜ q ≡ fitted p ⌝ }
+    ensures sized { λ q. ⌜ Sized q ⌝ }
+{
+    let whole = base::product(p.display, p.lines);
+    let display = (1 <= p.display) & (p.display <= 0xFFFFFF);
+    let lines = (1 <= p.lines) & (p.lines <= 0xFFFFFF);
+    let row = (1 <= p.row) & (p.row <= 0x2000000);
+    let increment = (1 <= p.increment) & (p.increment <= 1024);
+    if display & lines & (p.visible == whole) & row & (p.top <= 0xFFFFFF) & increment {
+        return p;
+    }
+    Plan {
+        display: 1,
+        lines: 1,
+        visible: 1,
+        meminit: 1,
+        row: 1,
+        top: 0,
+        increment: 1,
+        control: p.control,
+        position: p.position,
     }
 }
 
@@ -108,10 +136,10 @@ fn is_beyond(p: Plan, memory: &[u8]) -> bool
 }
 
 // Refusal 20 of the whole picture; with blanking forced or transfers off nothing is read.
-pub fn refuses_20(p: Plan, memory: &[u8]) -> bool
-    requires { ⌜ Sized p ⌝ }
-    ensures refusal { λ b. ⌜ b ≡ refusesIn p (now (memory .entry)) ⌝ }
+pub fn refuses_20(given: Plan, memory: &[u8]) -> bool
+    ensures refusal { λ b. ⌜ b ≡ refusesIn (fitted given) (now (memory .entry)) ⌝ }
 {
+    let p = fitting(given);
     let blank = control::is_forced_blank(p.control);
     let on = control::is_transferring(p.control);
     if !blank & on {
@@ -120,27 +148,27 @@ pub fn refuses_20(p: Plan, memory: &[u8]) -> bool
     false
 }
 
-// The picture, segment by segment.
+// The picture, segment by segment, into a buffer of its size; one of another size is left alone.
 pub fn draw_rows(
     buffer: &mut [u8],
     memory: &[u8],
-    p: Plan,
+    given: Plan,
     table: &[u32; 256],
     store: &[u16; 512],
     colours: &[u32; 3],
 ) -> Sums
-    requires { ⌜ Sized p ⌝ }
-    requires { ⌜ length (now buffer) ≡ 12 * p .visible ⌝ }
     ensures painted { λ s. ⌜
         Painted (now (buffer .entry)) 0 none
-        (run (dotIn p (now (table .entry)) (now (store .entry)) (now (colours .entry)) (now (memory .entry))) 0 (4 * p .visible))
+        (run (dotIn (fitted given) (now (table .entry)) (now (store .entry)) (now (colours .entry)) (now (memory .entry))) 0 (4 * shownIn (fitted given) (length (now (buffer .entry)))))
         (now (buffer .exit)) s ⌝ }
 {
+    let p = fitting(given);
     let control = p.control;
     let position = p.position;
+    let shown = base::choose(buffer.len() as u64 == 12 * p.visible, p.visible, 0);
     let mut t = Sums::none();
     let mut v: u64 = 0;
-    while v < p.visible {
+    while v < shown {
         let s = segment_at(p, v);
         t = span::draw_stretch(
             buffer,
@@ -158,20 +186,16 @@ pub fn draw_rows(
     t
 }
 
-// The generator at the frame's end, with these sums.
-pub fn end_of(p: Plan, sums: Sums) -> Generator
-    requires { ⌜ Sized p ⌝ }
-    ensures end { λ g. ⌜ g ≡ endIn p sums ⌝ }
+// What the frame leaves.
+pub fn left_by(given: Plan) -> Left
+    ensures left { λ l. ⌜ l ≡ leftIn (fitted given) ⌝ }
 {
+    let p = fitting(given);
     let last = p.visible - 1;
     let on = control::is_transferring(p.control);
     let held = address_at(p, last);
-    Generator {
-        half: HalfLines(0),
-        at: ScreenUnits(0),
-        seen: ScreenUnits(0),
+    Left {
         held: held as u32,
         asked: on & (p.meminit <= last % p.row),
-        sums,
     }
 }

@@ -1,10 +1,10 @@
--- `picture::rows::segment_at` meets its contract: up to the line's end or the row's, whichever comes first. Assumes nothing.
+-- `plan::segment_at` meets its contract: up to the line's end or the row's, whichever comes first. Assumes nothing.
 use native.Mathlib.Nat.{mod-lt}
 use native.Mathlib.Omega.{arith}
 use borrow.Author.Needs.{needs}
-use Rattle.picture.proofs.Segments.{visible-most, column-small, line-small, ticks-small, cut-by}
-use Rattle.picture.proofs.rows.segment_at.Statement.{statement}
-use Rattle.picture.proofs.rows.segment_at.Tie as tie
+use Rattle.plan.proofs.Segments.{visible-most, column-small, line-small, ticks-small, cut-by}
+use Rattle.plan.proofs.segment_at.Statement.{statement}
+use Rattle.plan.proofs.segment_at.Tie as tie
 
 pub segment-at-spec : {M : Type 1} → statement M
 segment-at-spec =

@@ -1,10 +1,10 @@
--- `picture::rows::first_place` meets its contract: a row number of 24 bits times a row's length fits. Assumes nothing.
+-- `plan::first_place` meets its contract: a row number of 24 bits times a row's length fits. Assumes nothing.
 use Prim.Native.Nat.{_+_, _*_, _/_, _%_, _^_, _<_}
 use native.Mathlib.Omega.{arith}
 use borrow.Author.Needs.{needs}
-use Rattle.picture.proofs.Segments.{unit-most, place-by}
-use Rattle.picture.proofs.rows.first_place.Statement.{statement}
-use Rattle.picture.proofs.rows.first_place.Tie as tie
+use Rattle.plan.proofs.Segments.{unit-most, place-by}
+use Rattle.plan.proofs.first_place.Statement.{statement}
+use Rattle.plan.proofs.first_place.Tie as tie
 
 fits : (c : tie.After-address-at) → c .address-at .result / c .before .args .p .increment * c .before .args .p .row + c .before .args .v % c .before .args .p .row < 2 ^ 58
 fits c = unit-most (c .before .args .p) (c .before .pre .0) (c .before .args .v) (c .before .pre .1) _ (c .address-at .ensures .1)

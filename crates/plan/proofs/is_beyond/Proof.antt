@@ -1,4 +1,4 @@
--- `picture::rows::is_beyond` meets its contract. The invariant: the places of the first v visible ticks are looked through. Assumes nothing.
+-- `plan::is_beyond` meets its contract. The invariant: the places of the first v visible ticks are looked through. Assumes nothing.
 use Prim.Native.Nat.{_*_, _-_, _≤_}
 use mathlib.Core.Path.{_≡_, refl}
 use native.Mathlib.Omega.{arith}
@@ -6,10 +6,10 @@ use borrow.Author.Needs.{needs}
 use Rattle.base.specs.Count.{some}
 use Rattle.control.specs.Control.{pixelBits}
 use Rattle.memory.specs.Memory.{endsBeyond}
-use Rattle.picture.specs.Plan.{placeIn}
-use Rattle.picture.proofs.Segments.{beyond-more}
-use Rattle.picture.proofs.rows.is_beyond.Statement.{statement}
-use Rattle.picture.proofs.rows.is_beyond.Tie as tie
+use Rattle.plan.specs.Plan.{placeIn}
+use Rattle.plan.proofs.Segments.{beyond-more}
+use Rattle.plan.proofs.is_beyond.Statement.{statement}
+use Rattle.plan.proofs.is_beyond.Tie as tie
 
 abbrev Inv-loop : tie.InvT-loop
 Inv-loop p memory beyond₀ v₀ beyond v =

@@ -16,10 +16,9 @@ use Rattle.memory.specs.Memory.{endsBeyond}
 use Rattle.signals.specs.declared.Dot.{Dot}
 use Rattle.pixel.specs.declared.Sums.{Sums}
 use Rattle.memory.proofs.Laws.{ends-beyond-later}
-use Rattle.stand.proofs.Bounds.{place-in}
 use Rattle.span.specs.Span.{Painted, coveredDot, Covered, fitted}
-use Rattle.picture.specs.Plan.{Sized, addressIn, placeIn, dotIn, refusesIn, Cut}
-use Rattle.picture.specs.declared.rows.Plan.{Plan}
+use Rattle.plan.specs.Plan.{Sized, addressIn, placeIn, dotIn, refusesIn, Cut}
+use Rattle.plan.specs.declared.Plan.{Plan}
 use Rattle.span.specs.declared.Stretch.{Stretch}
 use Rattle.span.proofs.Spans.{painted-on}
 use Rattle.span.proofs.Fits.{fitted-whole}
@@ -56,7 +55,8 @@ module _ (p : Plan) (ok : Sized p) where
     fits-address d = omega (arith, rows-most d, ok .top)
 
     pub unit-most : (address : ℕ) → address < 2 ^ 24 → address / p .increment * p .row + v % p .row < 2 ^ 58
-    unit-most address h = place-in address (p .increment) (p .row) v (omega arith) (ok .row) (omega (arith, ok .row-most))
+    unit-most address h =
+        omega (arith, mul-le-mul {n₁ = address / p .increment} {n₂ = 0xFFFFFF} (omega (arith, div-le-self address (p .increment))) (ok .row-most), mod-lt v (ok .row), ok .row-most)
 
     pub place-by : (address : ℕ) → address ≡ addressIn p v → (address / p .increment * p .row + v % p .row) * 4 ≡ placeIn p (4 * v)
     unfolding placeIn

@@ -1,10 +1,10 @@
--- `picture::rows::address_at` meets its contract: the rows of a frame fit. Assumes nothing.
+-- `plan::address_at` meets its contract: the rows of a frame fit. Assumes nothing.
 use mathlib.Core.Path.{refl}
 use native.Mathlib.Omega.{arith}
-use Rattle.picture.specs.Plan.{addressIn}
-use Rattle.picture.proofs.Segments.{fits-rows, fits-address}
-use Rattle.picture.proofs.rows.address_at.Statement.{statement}
-use Rattle.picture.proofs.rows.address_at.Tie as tie
+use Rattle.plan.specs.Plan.{addressIn}
+use Rattle.plan.proofs.Segments.{fits-rows, fits-address}
+use Rattle.plan.proofs.address_at.Statement.{statement}
+use Rattle.plan.proofs.address_at.Tie as tie
 
 pub address-at-spec : {M : Type 1} → statement M
 unfolding addressIn

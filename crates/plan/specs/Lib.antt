@@ -1,0 +1,2 @@
+-- The definitions of the code that draws a frame.
+pub mod Plan
