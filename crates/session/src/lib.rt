@@ -112,7 +112,7 @@ fn timed(d: Desk, c: Command, memory: &[u8], out: &mut [u8]) -> Desk
     let page = d.page;
     let count = base::first(left.count == 0, 1, values[0]);
     let lent = text::bytes::lent(memory, d.memory as usize);
-    let line_each = (page.form == ANSWERS) & (c.name == command::TICK);
+    let line_each = (page.form == ANSWERS) & (c.name == names::TICK);
     if (page.form == WAVE) | line_each {
         return ticks(d, lent, out, count);
     }
@@ -202,7 +202,7 @@ fn acted(
 {
     let left = c.left;
     let values = left.values;
-    let kind = command::kind_of(c.name);
+    let kind = names::kind_of(c.name);
     if kind == 0 {
         return write(d, out, values[0], values[1]);
     }
