@@ -86,12 +86,11 @@ fn plain_of(name: u32, rest: &[u8], memory: u32) -> Command
     let values = left.values;
     let later = rest_fault(name, values[0], values[1], left.count, memory);
     let fault = base::first(left.fault == 0, later, left.fault);
-    let right = numbers::no_numbers(0);
     Command {
         name,
         fault,
         left,
-        right,
+        right: numbers::no_numbers(0),
     }
 }
 
