@@ -124,16 +124,16 @@ fn found(p: Page, c: Command, m: Machine, out: &mut [u8]) -> Finding
 {
     let left = c.left;
     let values = left.values;
-    if c.name == command::READ {
+    if c.name == names::READ {
         return read(p, m, out, values[0]);
     }
-    if c.name == command::NINE {
+    if c.name == names::NINE {
         return nine(p, m, out);
     }
-    if c.name == command::SHEET {
+    if c.name == names::SHEET {
         return sheet(p, c, out);
     }
-    if c.name == command::FIELD {
+    if c.name == names::FIELD {
         return field(p, c, out);
     }
     compare(p, c, out)
@@ -144,7 +144,7 @@ pub fn asked(p: Page, c: Command, m: Machine, out: &mut [u8], line: u64) -> Page
     requires { ⌜ Sound (m .regs) (m .generator) ⌝ }
     ensures room { λ _. ⌜ length (now (out .exit)) ≡ length (now (out .entry)) ⌝ }
 {
-    if c.name == command::STORE {
+    if c.name == names::STORE {
         return store(p, c, out, line);
     }
     let answer = found(p, c, m, out);

@@ -1,2 +1,2 @@
--- Laws of names, numbers and commands.
-mod Reading
+-- Laws of commands.
+mod Cases

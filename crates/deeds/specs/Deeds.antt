@@ -10,7 +10,7 @@ use Rattle.machine.specs.declared.Machine.{Machine}
 use Rattle.picture.specs.Picture.{bufferOf}
 use Rattle.picture.specs.Machines.{pictured}
 use Rattle.acts.specs.Machines.{ranOf}
-use Rattle.command.specs.Commands.{kinds}
+use Rattle.names.specs.Names.{kinds}
 use Rattle.command.specs.declared.Command.{Command}
 use Rattle.keep.specs.Keep.{number, keptLength}
 use Rattle.deeds.specs.declared.Done.{Done}

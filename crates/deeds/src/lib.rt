@@ -112,7 +112,7 @@ pub fn act(c: Command, m: Machine, lent: u32, memory: &mut [u8], picture: &mut [
     let left = c.left;
     let values = left.values;
     let first = values[0];
-    let kind = command::kind_of(c.name);
+    let kind = names::kind_of(c.name);
     if kind == 0 {
         return write(m, lent, first, values[1]);
     }

@@ -14,15 +14,15 @@ pub fn kept(c: Command, memory: &mut [u8], before: u32) -> u32
     let left = c.left;
     let values = left.values;
     let first = values[0];
-    if name == command::MEMORY {
+    if name == names::MEMORY {
         bytes::fill(memory, 0, first as usize, 0, 0);
         return first;
     }
-    if name == command::POKE {
+    if name == names::POKE {
         answers::poked(memory, values, left.count);
         return before;
     }
-    if name == command::FILL {
+    if name == names::FILL {
         answers::filled(memory, values);
     }
     before

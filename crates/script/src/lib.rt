@@ -2,7 +2,7 @@
 ghost use mathlib.Core.Path.{_≡_};
 ghost use Rattle.script.specs.Script.{skipped, lineCommand};
 use command::Command;
-use command::UNKNOWN;
+use names::UNKNOWN;
 
 // A line that answers nothing: empty, or a remark.
 pub fn is_skipped(line: &[u8]) -> bool

@@ -152,7 +152,7 @@ fn said(
     out: &mut [u8; ROOM],
     line: u64,
 ) -> Page {
-    let kind = command::kind_of(c.name);
+    let kind = names::kind_of(c.name);
     let refusal = done.refusal;
     if kind == 2 {
         return ran(p, out, line, done.ticks, refusal);
@@ -168,7 +168,7 @@ fn said(
 
 // A waveform shows the ticks of `tick` and of `run`, answers those of `tick`, a picture none.
 fn is_shown(form: u32, name: u32) -> bool {
-    (form == WAVE) | ((form == ANSWERS) & (name == command::TICK))
+    (form == WAVE) | ((form == ANSWERS) & (name == names::TICK))
 }
 
 // A good command.
@@ -188,7 +188,7 @@ fn acted(
 {
     let m = d.machine;
     let before = d.page;
-    let kind = command::kind_of(c.name);
+    let kind = names::kind_of(c.name);
     let shown = base::first(is_shown(before.form, c.name), kind, 0);
     if shown == 2 {
         return timed(d, c, memory, out);

@@ -1,4 +1,8 @@
 -- `answers::field_of` meets its contract: the bytes lent are those of its numbers past the tag.
+use mathlib.Core.Path.{ap, _∙_}
+use lib.ListN.{getD}
+use Rattle.sheet.specs.Reader.{fieldOf}
+use Rattle.answers.proofs.Cases.{part-is}
 use borrow.Author.Needs.{needs}
 use Rattle.answers.proofs.field_of.Statement.{statement}
 use Rattle.answers.proofs.field_of.Tie as tie
@@ -25,7 +29,10 @@ field-requires : tie.Need-field-requires
 field-requires c κs = search needs
 
 returns : tie.Need-returns
-returns c = rw (c .field .ensures, c .before .lent .ensures, c .before .before .before .bytes-of .ensures, c .before .before .before .before .before .one-less .ensures)
+returns c =
+    let values = c .before .before .before .before .before .before .before .before .args .c .left .values in
+    let part = part-is values 1 _ _ _ _ (c .before .before .before .bytes-of .ensures) (c .before .before .before .before .before .one-less .ensures) (c .before .lent .ensures) in
+    c .field .ensures ∙ ap (λ bytes. fieldOf bytes (getD values 0 0)) part
 
 pub field-of-spec : {M : Type 1} → statement M
 field-of-spec =

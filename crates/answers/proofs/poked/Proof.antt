@@ -1,10 +1,19 @@
 -- `answers::poked` meets its contract: what is put are its words past the first.
+use mathlib.Core.Path.{ap, _∙_}
+use lib.ListN.{getD}
+use Rattle.room.specs.Room.{putText}
+use Rattle.answers.proofs.Cases.{part-is}
 use borrow.Author.Needs.{needs}
 use Rattle.answers.proofs.poked.Statement.{statement}
 use Rattle.answers.proofs.poked.Tie as tie
 
 returns : tie.Need-returns
-returns c = (cc, search needs)
+returns c =
+    let called = c .before .before .before .before .before .before .before in
+    let a = called .before .before .before .args in
+    let p = c .before .before .put .ensures in
+    let part = part-is (a .t2) 1 _ _ _ _ (called .bytes-of .ensures) (c .before .before .before .before .before .before .one-less .ensures) (c .before .before .before .lent .ensures) in
+    (p .1 .0 ∙ ap (putText (a .memory .now) (getD (a .t2) 0 0)) part, search needs)
 
 pub poked-spec : {M : Type 1} → statement M
 poked-spec =

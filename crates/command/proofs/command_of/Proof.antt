@@ -1,5 +1,5 @@
 -- `command::command_of` meets its contract, by the name.
-use Rattle.command.proofs.Reading.{command-unknown, command-compare, command-plain}
+use Rattle.command.proofs.Cases.{command-unknown, command-compare, command-plain}
 use borrow.Author.Needs.{needs}
 use Rattle.command.proofs.command_of.Statement.{statement}
 use Rattle.command.proofs.command_of.Tie as tie

@@ -1,7 +1,7 @@
 -- `command::compare_of` meets its contract, with a `/` and without.
 use mathlib.Core.Path.{sym}
 use lib.Seq.{length-take-le}
-use Rattle.command.proofs.Reading.{compare-parted, compare-whole}
+use Rattle.command.proofs.Cases.{compare-parted, compare-whole}
 use borrow.Author.Needs.{needs}
 use Rattle.command.proofs.compare_of.Statement.{statement}
 use Rattle.command.proofs.compare_of.Tie as tie

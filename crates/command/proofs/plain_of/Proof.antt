@@ -1,5 +1,5 @@
 -- `command::plain_of` meets its contract: its numbers' fault, or else that of the rest.
-use Rattle.command.proofs.Reading.{plain-made}
+use Rattle.command.proofs.Cases.{plain-made}
 use borrow.Author.Needs.{needs}
 use Rattle.command.proofs.plain_of.Statement.{statement}
 use Rattle.command.proofs.plain_of.Tie as tie

@@ -1,0 +1,2 @@
+-- Laws of bytes given as numbers.
+mod Cases

@@ -1,0 +1,2 @@
+-- Names of the bench script's commands.
+pub mod Names

@@ -1,0 +1,2 @@
+-- Laws of a command's numbers.
+mod Cases

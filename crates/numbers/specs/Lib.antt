@@ -1,0 +1,2 @@
+-- Numbers of the bench script's commands.
+pub mod Arguments

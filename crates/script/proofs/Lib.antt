@@ -1,0 +1,2 @@
+-- Laws of a whole line.
+mod Cases

@@ -1,0 +1,2 @@
+-- Laws of a `/` by itself.
+mod Cases

@@ -1,0 +1,2 @@
+-- The `/` of a `compare`.
+pub mod Slash
