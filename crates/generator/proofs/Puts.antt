@@ -2,10 +2,9 @@
 use Prim.Native.Nat.{ℕ, zero, suc, _+_, _*_, _/_, _%_, _^_, _≤_, _<_}
 use mathlib.Core.Bool.{Bool, true, false, not, cond, _&&_, _||_}
 use mathlib.Core.List.{List, [], _∷_}
-use mathlib.Core.Path.{_≡_, refl, sym, ap, _∙_}
+use mathlib.Core.Path.{_≡_, refl, sym, _∙_}
 use native.Mathlib.Nat.{mod-lt}
 use native.Mathlib.Omega.{arith}
-use lib.Dec.{eqb}
 use Rattle.base.specs.Count.{count, some, run}
 use Rattle.control.specs.Control.{running, transferring, pixelBits}
 use Rattle.units.specs.declared.Screen.{Screen}
@@ -18,12 +17,11 @@ use Rattle.pixel.specs.Dot.{dotAt}
 use Rattle.pixel.specs.Sums.{clearedAt, summedWhere}
 use Rattle.pixel.specs.declared.Sums.{Sums}
 use Rattle.memory.proofs.Laws.{ends-beyond-later}
-use Rattle.counters.specs.Rows.{screen, visibleAt, shows, heldAddress, place, asks}
+use Rattle.counters.specs.Rows.{screen, visibleAt, shows, heldAddress, place}
 use Rattle.generator.specs.Tick.{dotOf, dots, refuses20, cleared, sumsAfter, seenAfter, stepWith, signalsWith, signals, tickRefusal, tickOf}
 use Rattle.stand.specs.Stand.{Runs}
 use Rattle.generator.specs.Stands.{Stands}
 use Rattle.counters.specs.declared.Generator.{Generator}
-use Rattle.generator.specs.declared.Ticked.{Ticked}
 use Rattle.stand.specs.declared.Stand.{Stand}
 use Rattle.units.specs.Parameters.{halfTicks}
 use Rattle.limits.proofs.Laws.{narrow}

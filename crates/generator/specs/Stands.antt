@@ -1,6 +1,5 @@
 -- Where a tick stands, as the code holds it between its steps. Assumes nothing.
-use Prim.Native.Nat.{ℕ, _^_, _<_}
-use mathlib.Core.Bool.{Bool}
+use Prim.Native.Nat.{_^_, _<_}
 use mathlib.Core.Path.{_≡_}
 use Rattle.control.specs.Control.{plain}
 use Rattle.registers.specs.declared.Registers.{Registers}

@@ -1,7 +1,7 @@
 -- One tick (01, "Lines and frames", "Rows and pixels"): whether it is refused, what it puts out, the generator after it.
 -- r: the registers, m: the picture memory, g: the generator before the tick. Assumes nothing.
 use Prim.Native.Nat.{ℕ, zero, suc, _+_, _*_, _/_, _%_}
-use mathlib.Core.Bool.{Bool, true, false, not, cond, _&&_}
+use mathlib.Core.Bool.{Bool, not, cond, _&&_}
 use mathlib.Core.List.{List}
 use lib.Dec.{eqb}
 use Rattle.base.specs.Count.{some, run}

@@ -1,5 +1,5 @@
 -- `generator::output::dots_of` meets its contract: four pixels in a row, or four black ones.
-use borrow.Author.Needs.{needs}
+use lib.Dec.{lit<}
 use Rattle.generator.proofs.Puts.{dots-lit, dots-dark}
 use Rattle.generator.proofs.output.dots_of.Statement.{statement}
 use Rattle.generator.proofs.output.dots_of.Tie as tie
@@ -8,10 +8,10 @@ pub dots-of-spec : {M : Type 1} → statement M
 dots-of-spec =
     tie.close
     (tie.spec
-    (λ c κs. search needs)
-    (λ c κs. search needs)
-    (λ c κs. search needs)
-    (λ c κs. search needs)
+    (λ c κs. let start = c .before .before in (start .pre .0, (start .pre .1, lit< tt)))
+    (λ c κs. let start = c .before .before .before in (start .pre .0, (start .pre .1, lit< tt)))
+    (λ c κs. let start = c .before .before .before .before in (start .pre .0, (start .pre .1, lit< tt)))
+    (λ c κs. let start = c .before .before .before .before .before in (start .pre .0, (start .pre .1, lit< tt)))
     (λ c.
     let lit = c .before .before .before .before in
     let start = lit .before .before in
