@@ -1,3 +1,2 @@
--- Laws of the chain of a write, and of the checksum words.
+-- Laws of the chain of a write.
 pub mod Passed
-mod Words

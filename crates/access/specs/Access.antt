@@ -1,17 +1,13 @@
--- What a write is refused for (01, "Starting a screen", "Refusal numbers"), and the checksum words as they are read. Assumes nothing.
-use Prim.Native.Nat.{ℕ, _/_, _%_, _^_}
+-- What a write is refused for (01, "Starting a screen", "Refusal numbers"). Assumes nothing.
+use Prim.Native.Nat.{ℕ}
 use mathlib.Core.Bool.{Bool, cond, _&&_, _||_}
-use mathlib.Core.List.{List}
 use lib.Dec.{ltb}
-use Rattle.base.specs.Count.{run}
 use Rattle.control.specs.Control.{running, outside}
 use Rattle.units.specs.Parameters.{screenOf}
 use Rattle.limits.specs.Limits.{limitOf}
 use Rattle.map.specs.Map.{isParameter, isControl, isChecksum, isReserved, widest}
 use Rattle.map.specs.declared.Place.{Place}
 use Rattle.registers.specs.declared.Registers.{Registers}
-use Rattle.colour.specs.Colour.{colourOf}
-use Rattle.pixel.specs.declared.Sums.{Sums}
 
 -- 2: a reserved address, or a checksum written
 abbrev pub writeRefuses2 : Place → Bool
@@ -41,10 +37,3 @@ writeRefusal r p value =
     (cond (refuses3 r p) 3
     (cond (writeRefuses4 p value) 4
     (startLimit r p value))))
-
--- #0C0 holds the three low bytes, #0C1 the middle, #0C2 the high ones, red leftmost
-abbrev pub byteOf : ℕ → ℕ → ℕ
-byteOf k sum = sum / 256 ^ k % 256
-
-unfoldable pub checksumWords : Sums → List ℕ
-checksumWords sums = run (λ k. colourOf (byteOf k (sums .red)) (byteOf k (sums .green)) (byteOf k (sums .blue))) 0 3

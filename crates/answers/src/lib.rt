@@ -2,7 +2,8 @@
 ghost use mathlib.Core.Path.{_≡_};
 ghost use Prim.Native.Nat.{_-_};
 ghost use lib.ListN.{length, getD, take};
-ghost use Rattle.sheet.specs.Reader.{readSheet, fieldOf};
+ghost use Rattle.sheet.specs.Reader.{readSheet};
+ghost use Rattle.field.specs.Field.{fieldOf};
 ghost use Rattle.vault.specs.Compare.{compared};
 ghost use Rattle.room.specs.Room.{putText};
 ghost use Rattle.bytes.specs.Memory.{bytesFrom, fillMemory, pokeBytes};
@@ -44,14 +45,14 @@ pub fn sheet_of(c: Command) -> sheet::Sheet
 }
 
 // `field`: one field of its bytes, by its tag.
-pub fn field_of(c: Command) -> sheet::Answer
+pub fn field_of(c: Command) -> field::Answer
     ensures answer { λ r. ⌜ r ≡ fieldOf (take (c .left .count - 1) (bytesFrom (c .left .values) 1)) (getD (c .left .values) 0 0) ⌝ }
 {
     let left = c.left;
     let values = left.values;
     let count = one_less(left.count);
     let bytes = bytes_of(&values, 1);
-    sheet::field(lent(&bytes, count), values[0])
+    field::field(lent(&bytes, count), values[0])
 }
 
 // `compare`: its two sides.

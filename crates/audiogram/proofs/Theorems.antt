@@ -17,7 +17,8 @@ use Rattle.memory.proofs.Bytes.{pixel-inside}
 use Rattle.marks.specs.Marks.{mark}
 use Rattle.ear.specs.Ear.{measured, columns, pointOf, keyOf, lastBefore, coveredAt, shows}
 use Rattle.form.specs.Form.{form}
-use Rattle.audiogram.specs.Picture.{paperEntry, rightEntry, leftEntry, formEntry, entryAt, size, byteAt, drawn}
+use Rattle.entry.specs.Entry.{paperEntry, rightEntry, leftEntry, formEntry, entryAt}
+use Rattle.audiogram.specs.Picture.{size, byteAt, drawn}
 use Rattle.points.specs.declared.Point.{Point}
 
 -- ---- entries

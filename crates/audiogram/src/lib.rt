@@ -1,29 +1,12 @@
 // A clinical audiogram in picture memory: 640 by 480 pixels of 2 bits, four to a byte, least significant bits first.
 ghost use mathlib.Core.Path.{_≡_};
-ghost use Prim.Native.Nat.{_<_, _≤_, min};
-ghost use Rattle.audiogram.specs.Picture.{entryAt, byteAt, drawn, size};
+ghost use Prim.Native.Nat.{_<_, min};
+ghost use Rattle.audiogram.specs.Picture.{byteAt, drawn, size};
 use points::Point;
 use thresholds::Chart;
 
 // The bytes of the picture.
 pub const SIZE: usize = 76800;
-
-// The palette entry of a pixel: 1 right ear, 2 left ear, 3 form, 0 paper. The right ear lies over the left.
-fn entry_at(right: &[u8; 11], left: &[u8; 11], p: Point) -> u8
-    ensures entry { λ r. ⌜ r ≡ entryAt (now (right .entry)) (now (left .entry)) p ⌝ }
-    ensures bound { λ r. ⌜ r ≤ 3 ⌝ }
-{
-    if ear::shows(true, right, p) {
-        return 1;
-    }
-    if ear::shows(false, left, p) {
-        return 2;
-    }
-    if form::shows(p) {
-        return 3;
-    }
-    0
-}
 
 // Byte i of the picture: four pixels of one line.
 fn byte_at(right: &[u8; 11], left: &[u8; 11], i: usize) -> u8
@@ -32,10 +15,10 @@ fn byte_at(right: &[u8; 11], left: &[u8; 11], i: usize) -> u8
 {
     let x = (i % 160 * 4) as u16;
     let y = (i / 160) as u16;
-    let first = entry_at(right, left, Point { x, y });
-    let second = entry_at(right, left, Point { x: x + 1, y });
-    let third = entry_at(right, left, Point { x: x + 2, y });
-    let fourth = entry_at(right, left, Point { x: x + 3, y });
+    let first = entry::entry_at(right, left, Point { x, y });
+    let second = entry::entry_at(right, left, Point { x: x + 1, y });
+    let third = entry::entry_at(right, left, Point { x: x + 2, y });
+    let fourth = entry::entry_at(right, left, Point { x: x + 3, y });
     first + 4 * second + 16 * third + 64 * fourth
 }
 

@@ -17,7 +17,8 @@ use Rattle.pixel.specs.Dot.{dotAt}
 use Rattle.access.specs.Access
 use Rattle.machine.specs.Rules
 use Rattle.ear.specs.Ear.{shows}
-use Rattle.audiogram.specs.Picture.{paperEntry, rightEntry, leftEntry, formEntry, entryAt, size, drawn}
+use Rattle.entry.specs.Entry.{paperEntry, rightEntry, leftEntry, formEntry, entryAt}
+use Rattle.audiogram.specs.Picture.{size, drawn}
 use Rattle.points.specs.declared.Point.{Point}
 use Rattle.audiogram.proofs.Theorems.{drawn-pixel, entry-bound, right-where-shown, right-only-shown, left-where-shown, left-only-shown}
 use Rattle.settings.specs.Settings.{settings, settingsByte, settingsText}

@@ -27,7 +27,8 @@ use Rattle.machine.proofs.Soundness.{SoundMachine, beginning-sound, write-sound
 use Rattle.frame.specs.Frame
 use Rattle.frame.specs.Demand.{firstPlace, Ready}
 use Rattle.frame.proofs.Demand.{demand-3}
-use Rattle.audiogram.specs.Picture.{entryAt, size, drawn}
+use Rattle.entry.specs.Entry.{entryAt}
+use Rattle.audiogram.specs.Picture.{size, drawn}
 use Rattle.points.specs.declared.Point.{Point}
 use Rattle.audiogram.proofs.Theorems.{drawn-length}
 use Rattle.settings.specs.Settings.{addressOf, valueOf}

@@ -6,7 +6,8 @@ use native.Mathlib.Omega.{arith}
 use lib.Dec.{ltb, eqb}
 use borrow.Author.Tests.{ltb-true, ltb-false, eqb-true, eqb-false, not-false, lt-ltb, le-ltb, eq-eqb, ne-eqb}
 use Rattle.units.specs.Parameters.{displayFrom, halfTicks}
-use Rattle.limits.specs.Limits.{most, outOfRange, refuses10, refuses11, refuses12, refuses13, refuses14, refuses15, refuses16, refuses17, laterLimit, limitOf, Within, Bounded, Accepted}
+use Rattle.range.specs.Range.{most, outOfRange, refuses10}
+use Rattle.limits.specs.Limits.{refuses11, refuses12, refuses13, refuses14, refuses15, refuses16, refuses17, laterLimit, limitOf, Within, Bounded, Accepted}
 use Rattle.units.specs.declared.Screen.{Screen}
 
 -- neither of two tests holds

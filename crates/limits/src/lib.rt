@@ -1,34 +1,7 @@
-// Refusals 10 to 17 (01, "Refusal numbers"). The first bounds every count that the later ones add up.
+// Refusals 10 to 17 (01, "Refusal numbers"). The first, of crate `range`, bounds every count that the later ones add up.
 ghost use mathlib.Core.Path.{_≡_};
-ghost use Rattle.limits.specs.Limits.{outOfRange, refuses10, refuses11, refuses12, refuses13, refuses14, refuses15, refuses16, refuses17, laterLimit, limitOf, Bounded};
+ghost use Rattle.limits.specs.Limits.{refuses11, refuses12, refuses13, refuses14, refuses15, refuses16, refuses17, laterLimit, limitOf, Bounded};
 use units::Screen;
-
-// The largest screen parameter.
-const MOST: u64 = 4095;
-
-fn is_out_of_range(n: u64) -> bool
-    ensures range { λ r. ⌜ r ≡ outOfRange n ⌝ }
-{
-    (n == 0) | (MOST < n)
-}
-
-fn refuses_10(s: Screen) -> bool
-    ensures refusal { λ r. ⌜ r ≡ refuses10 s ⌝ }
-{
-    is_out_of_range(s.halfsync.0)
-        | is_out_of_range(s.backporch.0)
-        | is_out_of_range(s.display.0)
-        | is_out_of_range(s.shortdisplay.0)
-        | is_out_of_range(s.broadpulse.0)
-        | is_out_of_range(s.vsync.0)
-        | is_out_of_range(s.vpreequalise.0)
-        | is_out_of_range(s.vpostequalise.0)
-        | is_out_of_range(s.vblank.0)
-        | is_out_of_range(s.vdisplay.0)
-        | is_out_of_range(s.linetime.0)
-        | is_out_of_range(s.meminit.0)
-        | is_out_of_range(s.transferdelay.0)
-}
 
 fn refuses_11(s: Screen) -> bool
     ensures refusal { λ r. ⌜ r ≡ refuses11 s ⌝ }
@@ -101,7 +74,7 @@ fn later_limit(control: u32, s: Screen) -> u32
 pub fn limit(control: u32, s: Screen) -> u32
     ensures refusal { λ r. ⌜ r ≡ limitOf control s ⌝ }
 {
-    let wrong = refuses_10(s);
+    let wrong = range::refuses_10(s);
     if wrong {
         return 10;
     }

@@ -8,7 +8,8 @@ use lib.ListN.{getD}
 use Rattle.control.specs.Control.{running}
 use Rattle.map.specs.Map.{placeOf, numberOf, isControl, isChecksum, isReserved}
 use Rattle.registers.specs.File.{zeros, valueIn, storeIn}
-use Rattle.access.specs.Access.{refuses3, writeRefusal, checksumWords}
+use Rattle.access.specs.Access.{refuses3, writeRefusal}
+use Rattle.checksum.specs.Words.{checksumWords}
 use Rattle.map.specs.declared.Place.{Place}
 use Rattle.registers.specs.declared.Registers.{Registers}
 use Rattle.counters.specs.Rows.{screen}

@@ -52,7 +52,7 @@ fn value_at(m: Machine, p: Place) -> u32
 {
     let regs = m.regs;
     let sums = m.generator.sums;
-    let word = access::checksum_word(map::number_of(p), sums);
+    let word = checksum::checksum_word(map::number_of(p), sums);
     base::first(map::is_checksum(p), word, regs.value(p))
 }
 

@@ -75,9 +75,18 @@ module _ (p : Plan) where
   pub fitted-whole : Sized p → fitted p ≡ p
   unfolding fitted
   fitted-whole ok =
-      simp (le-leb 1 (p .display) (ok .display), le-leb (p .display) 0xFFFFFF (ok .display-most), le-leb 1 (p .lines) (ok .lines), le-leb (p .lines) 0xFFFFFF (ok .lines-most),
-      eq-eqb (p .visible) (capped (p .display * p .lines)) (ok .visible ∙ sym (product-exact (p .display) (p .lines) (ok .display-most) (ok .lines-most))),
-      le-leb 1 (p .row) (ok .row), le-leb (p .row) (2 ^ 25) (ok .row-most), le-leb (p .top) 0xFFFFFF (ok .top), le-leb 1 (p .increment) (ok .increment), le-leb (p .increment) 1024 (ok .increment-most))
+      simp (
+        le-leb 1 (p .display) (ok .display),
+        le-leb (p .display) 0xFFFFFF (ok .display-most),
+        le-leb 1 (p .lines) (ok .lines),
+        le-leb (p .lines) 0xFFFFFF (ok .lines-most),
+        eq-eqb (p .visible) (capped (p .display * p .lines)) (ok .visible ∙ sym (product-exact (p .display) (p .lines) (ok .display-most) (ok .lines-most))),
+        le-leb 1 (p .row) (ok .row),
+        le-leb (p .row) (2 ^ 25) (ok .row-most),
+        le-leb (p .top) 0xFFFFFF (ok .top),
+        le-leb 1 (p .increment) (ok .increment),
+        le-leb (p .increment) 1024 (ok .increment-most),
+      )
 
   -- the code's test, and what it leaves
   pub fitting-all : sizes p ≡ true → (p ≡ fitted p) × Sized p

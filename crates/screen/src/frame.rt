@@ -18,9 +18,9 @@ fn count(s: Screen) -> Totals
     );
     let row = s.meminit.0 + s.transferdelay.0;
     let linetime = s.linetime;
-    let ticks = units::units_of(lines, linetime);
+    let ticks = conversions::units_of(lines, linetime);
     let visible = ScreenUnits(base::product(s.display.0, s.vdisplay.0 / 2));
-    let pixels = units::pixels_of(visible);
+    let pixels = conversions::pixels_of(visible);
     Totals {
         refusal: 0,
         ticks,

@@ -3,16 +3,15 @@ use Prim.Native.Nat.{ℕ, zero, suc, _+_, _-_, _*_, _≤_, _<_}
 use mathlib.Core.Path.{_≡_, refl, _∙_, sym}
 use mathlib.Core.Bool.{Bool, cond, _||_, or-assoc, or-false}
 use mathlib.Core.List.{List, _∷_}
-use borrow.Author.Tests.{eq-eqb, ne-eqb, le-ltb}
+use borrow.Author.Tests.{eq-eqb, ne-eqb}
 use native.Mathlib.Numerals.{add-one}
 use native.Mathlib.Omega.{arith}
 use lib.Dec.{eqb, ltb, eqb·suc-zero}
 use lib.ListN.{length, getD, drop, set, replicate, drop-of-length-le}
 use lib.Seq.{sets, sets-eq, drop-cons, drop-drop}
 use Rattle.tags.specs.Encoding.{tags}
-use Rattle.sheet.specs.Reader.{pair, fieldRefusal, refusalFrom, valuesFrom, readSheet, fieldOf}
+use Rattle.sheet.specs.Reader.{pair, fieldRefusal, refusalFrom, valuesFrom, readSheet}
 use Rattle.sheet.specs.declared.Sheet.{Sheet}
-use Rattle.sheet.specs.declared.Answer.{Answer}
 
 next-left : (sheet : List ℕ) (i : ℕ) → drop 5 (drop (5 * i) sheet) ≡ drop (5 * (i + 1)) sheet
 next-left sheet i = let e : 5 * i + 5 ≡ 5 * (i + 1) = omega arith in rw (drop-drop, e)
@@ -46,7 +45,3 @@ good sheet values refusal e z w = rw (eq-eqb (refusalFrom tags sheet) 0 (sym e �
 
 pub bad : (sheet : List ℕ) (refusal : ℕ) → refusal ≡ refusalFrom tags sheet → (refusal ≡ 0 → ⊥) → _≡_ {A = Sheet} (record { refusal = refusal; values = replicate 14 0 }) (readSheet sheet)
 bad sheet refusal e n = rw (ne-eqb (refusalFrom tags sheet) 0 (λ z. n (e ∙ z)), e)
-
--- a tag of the sheet's own
-pub found : (sheet : List ℕ) (tag : ℕ) (whole : Sheet) → whole ≡ readSheet sheet → 0x21 ≤ tag → tag ≤ 0x2E → _≡_ {A = Answer} (record { refusal = whole .refusal; value = getD (whole .values) (tag - 0x21) 0 }) (fieldOf sheet tag)
-found sheet tag whole e low high = simp (le-ltb tag 0x21 low, le-ltb 0x2E tag high, e)

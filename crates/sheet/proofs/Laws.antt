@@ -1,5 +1,5 @@
--- What reading comes to, for callers: one field by its tag, and which sheets are accepted. Assumes nothing.
-use Prim.Native.Nat.{ℕ, zero, suc, _+_, _-_, _*_, _/_, _%_, _≤_, _<_}
+-- What reading comes to, for callers: which sheets are accepted. Assumes nothing.
+use Prim.Native.Nat.{ℕ, zero, suc, _+_, _*_, _/_, _%_, _≤_, _<_}
 use mathlib.Core.Path.{_≡_, refl, _∙_}
 use mathlib.Core.Bool.{Bool, true, false, not, cond, _||_, true≢false}
 use mathlib.Core.List.{List, [], _∷_, _++_, append-nil}
@@ -8,17 +8,9 @@ use borrow.Author.Tests.{eq-eqb, le-ltb, ltb-false, eqb-true}
 use lib.Dec.{eqb, ltb, eqb→eq, eqb·suc-zero}
 use lib.ListN.{length, getD, drop, drop-of-length-le}
 use lib.Seq.{drop-cons, getD-drop}
-use Rattle.tags.proofs.Laws.{tag-rule}
 use Rattle.tags.specs.Encoding.{tags, fields, encoding, over, Bytes, Encodes}
-use Rattle.sheet.specs.Reader.{pair, fieldRefusal, refusalFrom, valuesFrom, readSheet, fieldOf}
+use Rattle.sheet.specs.Reader.{pair, fieldRefusal, refusalFrom, valuesFrom, readSheet}
 use Rattle.sheet.specs.declared.Sheet.{Sheet}
-use Rattle.sheet.specs.declared.Answer.{Answer}
-
--- the tag of field k asks for value k
-pub field-by-tag : (sheet : List ℕ) (k : ℕ) → k < 14 → _≡_ {A = Answer} (fieldOf sheet (getD tags k 0)) (record { refusal = readSheet sheet .refusal; value = getD (readSheet sheet .values) k 0 })
-field-by-tag sheet k h =
-    let place : 0x21 + k - 0x21 ≡ k = omega arith in
-    rw (tag-rule k h) (simp (le-ltb (0x21 + k) 0x21 (omega arith), le-ltb 0x2E (0x21 + k) (omega arith), place))
 
 -- ---- an encoding is accepted
 read-fields : (due values : List ℕ) → length values ≡ length due → (refusalFrom due (fields due values) ≡ 0) × (valuesFrom due (fields due values) ≡ values)

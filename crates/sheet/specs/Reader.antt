@@ -1,12 +1,11 @@
 -- Reading a sheet (01, "Screen sheet"; "Refusal numbers", 30 to 33): left to right, one field after the other. Assumes nothing.
-use Prim.Native.Nat.{ℕ, _+_, _*_, _-_}
-use mathlib.Core.Bool.{not, cond, _||_}
+use Prim.Native.Nat.{ℕ, _+_, _*_}
+use mathlib.Core.Bool.{not, cond}
 use mathlib.Core.List.{List, [], _∷_}
 use lib.Dec.{ltb, eqb}
 use lib.ListN.{length, getD, drop, replicate}
 use Rattle.tags.specs.Encoding.{tags}
 use Rattle.sheet.specs.declared.Sheet.{Sheet}
-use Rattle.sheet.specs.declared.Answer.{Answer}
 
 -- two bytes as a number, high byte first
 abbrev pub pair : List ℕ → ℕ → ℕ
@@ -39,10 +38,3 @@ readSheet sheet =
       refusal = refusalFrom tags sheet;
       values = cond (eqb (refusalFrom tags sheet) 0) (valuesFrom tags sheet) (replicate 14 0);
     }
-
--- one field of a whole good sheet by its tag: a tag outside #21 to #2E gets 31 first
-abbrev pub fieldOf : List ℕ → ℕ → Answer
-fieldOf sheet tag =
-    cond (ltb tag 0x21 || ltb 0x2E tag)
-    (record { refusal = 31; value = 0 })
-    (record { refusal = readSheet sheet .refusal; value = getD (readSheet sheet .values) (tag - 0x21) 0 })

@@ -1,20 +1,14 @@
-// The reader of screen sheets (01, "Screen sheet"), and one field by its tag. Any bytes may be given.
+// The reader of screen sheets (01, "Screen sheet"). Any bytes may be given.
 ghost use mathlib.Core.Path.{_≡_};
 ghost use Prim.Native.Nat.{_<_};
 ghost use lib.ListN.{getD, drop};
 ghost use Rattle.tags.specs.Encoding.{tags};
-ghost use Rattle.sheet.specs.Reader.{fieldRefusal, refusalFrom, valuesFrom, readSheet, fieldOf};
+ghost use Rattle.sheet.specs.Reader.{fieldRefusal, refusalFrom, valuesFrom, readSheet};
 
 // What a sheet answers: a refusal, or 0 and the fourteen values.
 pub struct Sheet {
     pub refusal: u32,
     pub values: [u32; 14],
-}
-
-// What one field answers: a refusal, or 0 and the value.
-pub struct Answer {
-    pub refusal: u32,
-    pub value: u32,
 }
 
 // A byte, and 0 past the end: so the tests of a field may stand in a row.
@@ -94,30 +88,5 @@ pub fn read(sheet: &[u8]) -> Sheet
     } else {
         let values = [0u32; 14];
         Sheet { refusal, values }
-    }
-}
-
-// One field of a whole good sheet, by its tag.
-pub fn field(sheet: &[u8], tag: u32) -> Answer
-    ensures answer { λ r. ⌜ r ≡ fieldOf (now (sheet .entry)) tag ⌝ }
-{
-    if tag < 0x21 {
-        return Answer {
-            refusal: 31,
-            value: 0,
-        };
-    }
-    if 0x2E < tag {
-        return Answer {
-            refusal: 31,
-            value: 0,
-        };
-    }
-    let whole = read(sheet);
-    let values = whole.values;
-    let i = (tag - 0x21) as usize;
-    Answer {
-        refusal: whole.refusal,
-        value: values[i],
     }
 }

@@ -23,6 +23,6 @@ pub extern "C" fn station_compare_checksums(a: &[u8], b: &[u8]) -> u64
 pub extern "C" fn station_sheet_field(sheet: &[u8], tag: u32) -> u64
     ensures number { λ r. ⌜ r ≡ fieldNumber (now (sheet .entry)) tag ⌝ }
 {
-    let answer = sheet::field(sheet, tag);
+    let answer = field::field(sheet, tag);
     numbered(answer.refusal, answer.value)
 }

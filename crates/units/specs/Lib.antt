@@ -1,3 +1,2 @@
--- The rules of a screen's counts: units and parameters.
-pub mod Units
+-- The rules of a screen's parameters.
 pub mod Parameters

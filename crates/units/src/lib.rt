@@ -1,6 +1,5 @@
 // A screen's counts in three units (01, "Starting a screen") and its fourteen parameters (01, "Register map").
 ghost use mathlib.Core.Path.{_≡_};
-ghost use Rattle.units.specs.Units.{pixelsOf, unitsOf};
 ghost use Rattle.units.specs.Parameters.{screenOf};
 
 // Three counts that never stand in for one another. One screen unit is one tick.
@@ -26,20 +25,6 @@ pub struct Screen {
     pub linestart: ScreenUnits,
     pub meminit: ScreenUnits,
     pub transferdelay: ScreenUnits,
-}
-
-// One screen unit is four pixels.
-pub fn pixels_of(units: ScreenUnits) -> Pixels
-    ensures pixels { λ r. ⌜ r ≡ pixelsOf units ⌝ }
-{
-    Pixels(base::product(4, units.0))
-}
-
-// A half line is half the line time.
-pub fn units_of(lines: HalfLines, linetime: ScreenUnits) -> ScreenUnits
-    ensures units { λ r. ⌜ r ≡ unitsOf lines linetime ⌝ }
-{
-    ScreenUnits(base::product(linetime.0 / 2, lines.0))
 }
 
 // The registers #021 to #02E as a screen.

@@ -1,6 +1,5 @@
 -- `limits::later_limit` meets its contract: each test once, and the chain of them.
 use Rattle.limits.specs.Limits.{laterLimit}
-use borrow.Author.Needs.{needs}
 use Rattle.limits.proofs.later_limit.Statement.{statement}
 use Rattle.limits.proofs.later_limit.Tie as tie
 
@@ -10,12 +9,12 @@ later-limit-spec =
     tie.close
     (tie.spec
     (λ c κs. tt)
-    (λ c κs. search needs)
-    (λ c κs. search needs)
+    (λ c κs. c .before .pre)
+    (λ c κs. c .before .before .pre)
     (λ c κs. tt)
     (λ c κs. tt)
     (λ c κs. tt)
-    (λ c κs. search needs)
+    (λ c κs. c .before .before .before .before .before .before .pre)
     (λ c κs. tt)
     (λ c κs. tt)
     (λ c κs. tt)

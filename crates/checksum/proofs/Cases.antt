@@ -10,7 +10,7 @@ use Rattle.base.specs.Count.{run}
 use Rattle.base.proofs.Table.{entry}
 use Rattle.base.proofs.Run.{run-entry}
 use Rattle.pixel.specs.declared.Sums.{Sums}
-use Rattle.access.specs.Access.{checksumWords}
+use Rattle.checksum.specs.Words.{checksumWords}
 
 -- the place values of a sum's bytes: one test over the table
 abbrev pub bytes : List ℕ

@@ -1,9 +1,9 @@
--- `access::checksum_word` meets its contract: the table holds the place values of a sum's bytes.
+-- `checksum::checksum_word` meets its contract: the table holds the place values of a sum's bytes.
 use native.Mathlib.Omega.{arith}
 use borrow.Author.Needs.{needs}
-use Rattle.access.proofs.Words.{byte-positive, word-within, word-past}
-use Rattle.access.proofs.checksum_word.Statement.{statement}
-use Rattle.access.proofs.checksum_word.Tie as tie
+use Rattle.checksum.proofs.Cases.{byte-positive, word-within, word-past}
+use Rattle.checksum.proofs.checksum_word.Statement.{statement}
+use Rattle.checksum.proofs.checksum_word.Tie as tie
 
 pub checksum-word-spec : {M : Type 1} → statement M
 checksum-word-spec =

@@ -1,6 +1,6 @@
--- `limits::refuses_10` meets its contract: thirteen tests, in register order.
-use Rattle.limits.proofs.refuses_10.Statement.{statement}
-use Rattle.limits.proofs.refuses_10.Tie as tie
+-- `range::refuses_10` meets its contract: thirteen tests, in register order.
+use Rattle.range.proofs.refuses_10.Statement.{statement}
+use Rattle.range.proofs.refuses_10.Tie as tie
 
 pub refuses-10-spec : {M : Type 1} → statement M
 refuses-10-spec =

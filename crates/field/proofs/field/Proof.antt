@@ -1,10 +1,10 @@
--- `sheet::field` meets its contract: by cases of the tag. Assumes nothing.
+-- `field::field` meets its contract: by cases of the tag. Assumes nothing.
 use borrow.Author.Needs.{needs}
 use borrow.Author.Tests.{lt-ltb, le-ltb}
 use native.Mathlib.Omega.{arith}
-use Rattle.sheet.proofs.Cases.{found}
-use Rattle.sheet.proofs.field.Statement.{statement}
-use Rattle.sheet.proofs.field.Tie as tie
+use Rattle.field.proofs.Laws.{found}
+use Rattle.field.proofs.field.Statement.{statement}
+use Rattle.field.proofs.field.Tie as tie
 
 pub field-spec : {M : Type 1} → statement M
 field-spec =

@@ -1,9 +1,9 @@
--- `audiogram::entry_at` meets its contract: the first that shows. Assumes nothing.
+-- `entry::entry_at` meets its contract: the first that shows. Assumes nothing.
 use mathlib.Core.Path.{_≡_}
 use native.Mathlib.Omega.{arith}
-use Rattle.audiogram.proofs.Cases.{entry-right, entry-left, entry-form, entry-paper}
-use Rattle.audiogram.proofs.entry_at.Statement.{statement}
-use Rattle.audiogram.proofs.entry_at.Tie as tie
+use Rattle.entry.proofs.Cases.{entry-right, entry-left, entry-form, entry-paper}
+use Rattle.entry.proofs.entry_at.Statement.{statement}
+use Rattle.entry.proofs.entry_at.Tie as tie
 
 pub entry-at-spec : {M : Type 1} → statement M
 entry-at-spec =

@@ -1,0 +1,2 @@
+-- What the proof of `checksum` uses.
+mod Cases

@@ -1,0 +1,2 @@
+-- The rule of the checksum words.
+pub mod Words

@@ -1,0 +1,2 @@
+-- The conversions between the three units.
+pub mod Units

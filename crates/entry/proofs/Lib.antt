@@ -1,0 +1,2 @@
+-- What the proof of `entry` uses.
+mod Cases

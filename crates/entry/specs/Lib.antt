@@ -1,0 +1,2 @@
+-- The rule of a pixel's palette entry.
+pub mod Entry

@@ -1,0 +1,2 @@
+-- Laws of one field by its tag.
+pub mod Laws

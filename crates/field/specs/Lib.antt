@@ -1,0 +1,2 @@
+-- The rule of one field by its tag.
+pub mod Field

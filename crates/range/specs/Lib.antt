@@ -1,0 +1,2 @@
+-- The range of a screen's parameters: refusal 10.
+pub mod Range
