@@ -1,7 +1,7 @@
 -- `answers::field_of` meets its contract: the bytes lent are those of its numbers past the tag.
 use mathlib.Core.Path.{ap, _∙_}
 use lib.ListN.{getD}
-use Rattle.sheet.specs.Reader.{fieldOf}
+use Rattle.field.specs.Field.{fieldOf}
 use Rattle.answers.proofs.Cases.{part-is}
 use borrow.Author.Needs.{needs}
 use Rattle.answers.proofs.field_of.Statement.{statement}
