@@ -16,12 +16,13 @@ use Rattle.memory.specs.Memory.{endsBeyond}
 use Rattle.signals.specs.declared.Dot.{Dot}
 use Rattle.pixel.specs.declared.Sums.{Sums}
 use Rattle.memory.proofs.Laws.{ends-beyond-later}
-use Rattle.span.specs.Span.{Painted, coveredDot, Covered, fitted}
+use Rattle.stretch.specs.Stretch.{fitted}
+use Rattle.span.specs.Span.{Painted, coveredDot, Covered}
 use Rattle.plan.specs.Plan.{Sized, addressIn, placeIn, dotIn, refusesIn, Cut}
 use Rattle.plan.specs.declared.Plan.{Plan}
-use Rattle.span.specs.declared.Stretch.{Stretch}
+use Rattle.stretch.specs.declared.Stretch.{Stretch}
 use Rattle.span.proofs.Spans.{painted-on}
-use Rattle.span.proofs.Fits.{fitted-whole}
+use Rattle.stretch.proofs.Fits.{fitted-whole}
 
 -- j on inside one turn of d
 div-on : (d v j : ℕ) → v % d + j < d → (v + j) / d ≡ v / d

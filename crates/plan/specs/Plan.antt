@@ -15,7 +15,7 @@ use Rattle.signals.specs.declared.Dot.{Dot}
 use Rattle.span.specs.Span.{dotThrough}
 use Rattle.plan.specs.declared.Plan.{Plan}
 use Rattle.plan.specs.declared.Left.{Left}
-use Rattle.span.specs.declared.Stretch.{Stretch}
+use Rattle.stretch.specs.declared.Stretch.{Stretch}
 
 unfoldable pub planOf : Registers → Plan
 planOf r =

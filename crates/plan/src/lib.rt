@@ -10,7 +10,7 @@ ghost use Rattle.span.specs.Span.{Painted};
 ghost use Rattle.plan.specs.Plan.{planOf, Sized, fitted, addressIn, placeIn, dotIn, shownIn, refusesIn, leftIn, Cut};
 use pixel::Sums;
 use registers::Registers;
-use span::Stretch;
+use stretch::Stretch;
 
 // The numbers of a frame: ticks of a line's Display, displayed lines, visible ticks, R, the first address and the step to the next.
 pub struct Plan {

@@ -1,4 +1,2 @@
 -- Laws of painted stretches: for callers, and of the proofs here.
 pub mod Spans
-pub mod Clips
-pub mod Fits

@@ -13,9 +13,10 @@ use Rattle.pixel.specs.Sums.{summed}
 use Rattle.signals.specs.declared.Dot.{Dot}
 use Rattle.pixel.specs.declared.Sums.{Sums}
 use Rattle.pixel.proofs.Laws.{summed-join}
-use Rattle.span.specs.Span.{bytesOf, Painted, plainDot, codeOver, dotThrough, coveredDot, Clipped}
-use Rattle.span.specs.declared.Columns.{Columns}
-use Rattle.span.specs.declared.Stretch.{Stretch}
+use Rattle.span.specs.Span.{bytesOf, Painted, plainDot, dotThrough, coveredDot}
+use Rattle.stretch.specs.Stretch.{codeOver, Clipped}
+use Rattle.stretch.specs.declared.Columns.{Columns}
+use Rattle.stretch.specs.declared.Stretch.{Stretch}
 
 -- stores in a row, and then further ones right behind, are the stores of both
 sets-append : (l : List ℕ) (i : ℕ) (xs ys : List ℕ) → sets l i (xs ++ ys) ≡ sets (sets l i xs) (i + length xs) ys

@@ -5,8 +5,8 @@ use mathlib.Core.Path.{_≡_, refl, sym, _∙_}
 use native.Mathlib.Omega.{arith}
 use borrow.Author.Tests.{lt-ltb, le-ltb, ltb-true, ltb-false, le-leb, lt-leb, leb-true, leb-false}
 use lib.Dec.{ltb, leb}
-use Rattle.span.specs.Span.{fits, fitted, Small}
-use Rattle.span.specs.declared.Stretch.{Stretch}
+use Rattle.stretch.specs.Stretch.{fits, fitted, Small}
+use Rattle.stretch.specs.declared.Stretch.{Stretch}
 
 room-for : (at count size room : ℕ) → room ≡ min (size - at) size → (leb at size && leb count (room / 3)) ≡ leb (at + 3 * count) size
 room-for at count size room e = go (leb at size) refl (leb count (room / 3)) refl

@@ -1,9 +1,9 @@
--- `span::fitting` meets its contract: its tests, which never subtract below 0, are those of `fits`. Assumes nothing.
+-- `stretch::fitting` meets its contract: its tests, which never subtract below 0, are those of `fits`. Assumes nothing.
 use native.Mathlib.Omega.{arith}
 use borrow.Author.Needs.{needs}
-use Rattle.span.proofs.Fits.{fitting-all, fitting-none}
-use Rattle.span.proofs.fitting.Statement.{statement}
-use Rattle.span.proofs.fitting.Tie as tie
+use Rattle.stretch.proofs.Fits.{fitting-all, fitting-none}
+use Rattle.stretch.proofs.fitting.Statement.{statement}
+use Rattle.stretch.proofs.fitting.Tie as tie
 
 returns : tie.Need-returns
 returns c =

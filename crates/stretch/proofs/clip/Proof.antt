@@ -1,9 +1,9 @@
--- `span::clip` meets its contract: outside the columns from `left` to `right` the cursor has no code. Assumes nothing.
+-- `stretch::clip` meets its contract: outside the columns from `left` to `right` the cursor has no code. Assumes nothing.
 use native.Mathlib.Omega.{arith}
 use mathlib.Core.Path.{refl}
-use Rattle.span.proofs.Clips.{clip-columns, clip-nothing}
-use Rattle.span.proofs.clip.Statement.{statement}
-use Rattle.span.proofs.clip.Tie as tie
+use Rattle.stretch.proofs.Clips.{clip-columns, clip-nothing}
+use Rattle.stretch.proofs.clip.Statement.{statement}
+use Rattle.stretch.proofs.clip.Tie as tie
 
 pub clip-spec : {M : Type 1} → statement M
 clip-spec =

@@ -11,8 +11,8 @@ use lib.IntN.{pos, _-ℤ_}
 use Rattle.control.specs.Control.{field, cursorOn}
 use Rattle.cursor.specs.Cursor.{signed12, within, cursorCode}
 use Rattle.cursor.proofs.Cases.{code-beside, code-above}
-use Rattle.span.specs.Span.{codeOver, biased, Clipped}
-use Rattle.span.specs.declared.Stretch.{Stretch}
+use Rattle.stretch.specs.Stretch.{codeOver, biased, Clipped}
+use Rattle.stretch.specs.declared.Stretch.{Stretch}
 
 -- outside the 64 from a place on, all counted from -2,048
 abbrev Outside : ℕ → ℕ → Type 0

@@ -1,0 +1,3 @@
+-- Laws of stretches: for callers, and of the proofs here.
+pub mod Clips
+pub mod Fits

@@ -1,0 +1,2 @@
+-- The rules of a stretch of pixels: what fits, and what the cursor may cover.
+pub mod Stretch
