@@ -111,7 +111,7 @@ fn timed(d: Desk, c: Command, memory: &[u8], out: &mut [u8]) -> Desk
     let values = left.values;
     let page = d.page;
     let count = base::first(left.count == 0, 1, values[0]);
-    let lent = text::bytes::lent(memory, d.memory as usize);
+    let lent = parts::lent(memory, d.memory as usize);
     let line_each = (page.form == ANSWERS) & (c.name == names::TICK);
     if (page.form == WAVE) | line_each {
         return ticks(d, lent, out, count);
@@ -147,7 +147,7 @@ fn drawn(d: Desk, memory: &[u8], picture: &mut [u8], out: &mut [u8], length: u32
     ensures sound { λ r. ⌜ Sound (r .machine .regs) (r .machine .generator) ⌝ }
 {
     let size = length as usize;
-    let lent = text::bytes::lent(memory, d.memory as usize);
+    let lent = parts::lent(memory, d.memory as usize);
     if picture.len() < size {
         return d;
     }
@@ -373,10 +373,10 @@ fn painted(p: Page, picture: &[u8; PICTURE_BYTES], out: &mut [u8; ROOM]) {
         return;
     }
     let head = ppm::put_ppm(out, 0, p.width, p.height);
-    io::write_all(1, text::bytes::lent(out, head));
+    io::write_all(1, parts::lent(out, head));
     let pixels = base::product(p.width, p.height);
     let size = base::product(3, pixels);
-    io::write_all(1, text::bytes::lent(picture, size as usize));
+    io::write_all(1, parts::lent(picture, size as usize));
 }
 
 // The whole script. A loop has to end, and nothing says that a script does: it counts from a number that no script uses up.
