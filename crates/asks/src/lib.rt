@@ -25,9 +25,9 @@ fn rows(p: Page, out: &mut [u8], bytes: &[u8]) -> Page {
     while from < bytes.len() {
         page = report::space(page, out);
         let left = &bytes[from..];
-        let end = text::put_row(out, page.waiting, text::bytes::lent(left, 32));
+        let end = rows::put_row(out, page.waiting, parts::lent(left, 32));
         page = report::turn(page, end);
-        from = text::bytes::later(from, 32, bytes.len());
+        from = parts::later(from, 32, bytes.len());
     }
     page
 }
@@ -77,7 +77,7 @@ fn sheet(p: Page, c: Command, out: &mut [u8]) -> Finding {
     let sheet = answers::sheet_of(c);
     let values = sheet.values;
     let ok = room::put(out, p.waiting, b"ok");
-    let end = text::put_values(out, ok, &values);
+    let end = rows::put_values(out, ok, &values);
     Finding {
         refusal: sheet.refusal,
         end,
@@ -109,13 +109,7 @@ fn store(p: Page, c: Command, out: &mut [u8], line: u64) -> Page {
     let stored = store::stored_of(c);
     let bytes = stored.bytes;
     let room = stored.room;
-    shown(
-        p,
-        out,
-        line,
-        stored.refusal,
-        text::bytes::lent(&bytes, room),
-    )
+    shown(p, out, line, stored.refusal, parts::lent(&bytes, room))
 }
 
 // A command that finds something out.

@@ -17,7 +17,7 @@ fn picture_room() -> [u8; 76800] {
 
 // Writes what waits.
 fn written(out: &[u8], waiting: usize) -> usize {
-    io::write_all(1, text::bytes::lent(out, waiting));
+    io::write_all(1, parts::lent(out, waiting));
     0
 }
 
@@ -59,10 +59,10 @@ fn pokes(out: &mut [u8], at: usize, memory: &[u8]) -> usize {
         waiting = poke(
             out,
             waiting,
-            text::bytes::lent(left, 64),
+            parts::lent(left, 64),
             (from % 0x1000000) as u32,
         );
-        from = text::bytes::later(from, 64, memory.len());
+        from = parts::later(from, 64, memory.len());
     }
     waiting
 }
@@ -114,7 +114,7 @@ fn complain(lines: u64, fault: u32, out: &mut [u8]) {
     let number = text::put_decimal(out, word, lines);
     let colon = room::put(out, number, b": ");
     let end = phrase(out, colon, fault);
-    io::write_all(2, text::bytes::lent(out, end));
+    io::write_all(2, parts::lent(out, end));
 }
 
 // A whole line; after a wrong one no other is read.

@@ -49,7 +49,7 @@ fn run(m: Machine, lent: u32, memory: &[u8], count: u32) -> Done
     ensures done { λ d. ⌜ d ≡ runDone m lent (take lent (now (memory .entry))) count ⌝ }
     ensures sound { λ d. ⌜ Sound (d .machine .regs) (d .machine .generator) ⌝ }
 {
-    let ran = acts::run(m, text::bytes::lent(memory, lent as usize), count);
+    let ran = acts::run(m, parts::lent(memory, lent as usize), count);
     let machine = ran.machine;
     Done {
         refusal: ran.refusal,
@@ -77,7 +77,7 @@ fn draw(m: Machine, lent: u32, memory: &[u8], buffer: &mut [u8]) -> Done
     ensures bytes { λ _. ⌜ now (buffer .exit) ≡ bufferOf (m .regs) (take lent (now (memory .entry))) (m .generator) (now (buffer .entry)) ⌝ }
     ensures sound { λ d. ⌜ Sound (d .machine .regs) (d .machine .generator) ⌝ }
 {
-    let drawn = picture::draw_machine(m, text::bytes::lent(memory, lent as usize), buffer);
+    let drawn = picture::draw_machine(m, parts::lent(memory, lent as usize), buffer);
     let machine = drawn.machine;
     Done {
         refusal: drawn.refusal,

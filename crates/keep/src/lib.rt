@@ -1,8 +1,34 @@
 // What `memory`, `poke` and `fill` leave in the memory lent.
 ghost use mathlib.Core.Path.{_≡_};
-ghost use lib.ListN.{length};
+ghost use lib.ListN.{length, getD};
+ghost use Rattle.room.specs.Room.{putText};
+ghost use Rattle.bytes.specs.Memory.{fillMemory, pokeBytes};
 ghost use Rattle.keep.specs.Keep.{keptMemory, keptLength};
+use bytes::bytes_of;
+use bytes::one_less;
 use command::Command;
+use parts::lent;
+
+// `fill`, by its numbers.
+fn filled(memory: &mut [u8], values: [u32; 81])
+    ensures bytes { λ _. ⌜ now (memory .exit) ≡ fillMemory (now (memory .entry)) (getD values 0 0) (getD values 1 0) (getD values 2 0) (getD values 3 0) ⌝ }
+    ensures room { λ _. ⌜ length (now (memory .exit)) ≡ length (now (memory .entry)) ⌝ }
+{
+    let at = values[0] as usize;
+    let count = values[1] as usize;
+    bytes::fill(memory, at, count, values[2], values[3]);
+}
+
+// `poke`, by its numbers.
+fn poked(memory: &mut [u8], values: [u32; 81], count: usize)
+    ensures bytes { λ _. ⌜ now (memory .exit) ≡ putText (now (memory .entry)) (getD values 0 0) (pokeBytes values count) ⌝ }
+    ensures room { λ _. ⌜ length (now (memory .exit)) ≡ length (now (memory .entry)) ⌝ }
+{
+    let bytes = bytes_of(&values, 1);
+    let at = values[0] as usize;
+    let many = one_less(count);
+    room::put(memory, at, lent(&bytes, many));
+}
 
 // `memory`, `poke` and `fill`: the bytes after it, and how many are lent from now on.
 pub fn kept(c: Command, memory: &mut [u8], before: u32) -> u32
@@ -19,11 +45,11 @@ pub fn kept(c: Command, memory: &mut [u8], before: u32) -> u32
         return first;
     }
     if name == names::POKE {
-        answers::poked(memory, values, left.count);
+        poked(memory, values, left.count);
         return before;
     }
     if name == names::FILL {
-        answers::filled(memory, values);
+        filled(memory, values);
     }
     before
 }

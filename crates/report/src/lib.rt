@@ -63,7 +63,7 @@ fn count(p: Page, waiting: usize, s: Signals) -> Page
 pub fn write(p: Page, out: &[u8]) -> Page
     ensures page { λ r. ⌜ r ≡ turned p 0 ⌝ }
 {
-    let waiting = text::bytes::lent(out, p.waiting);
+    let waiting = parts::lent(out, p.waiting);
     if p.form == PICTURE {
         io::write_all(2, waiting);
     } else {

@@ -113,7 +113,7 @@ fn timed(d: Desk, c: Command, memory: &[u8; MEMORY], out: &mut [u8; ROOM]) -> De
     let m = d.machine;
     let before = d.page;
     let count = deeds::ticks_of(c);
-    let lent = text::bytes::lent(memory, d.memory as usize);
+    let lent = parts::lent(memory, d.memory as usize);
     let shown = ticks(m, before, lent, out, d.lines, count);
     let machine = shown.machine;
     let page = shown.page;
@@ -139,7 +139,7 @@ fn pictured(
     let size = acts::size_of(m);
     kept.width = base::choose(refusal == 0, size.width, kept.width);
     kept.height = base::choose(refusal == 0, size.height, kept.height);
-    let bytes = text::bytes::lent(picture, length as usize);
+    let bytes = parts::lent(picture, length as usize);
     asks::shown(kept, out, line, refusal, bytes)
 }
 
@@ -357,10 +357,10 @@ fn painted(p: Page, picture: &[u8; PICTURE_BYTES], out: &mut [u8; ROOM]) {
         return;
     }
     let head = ppm::put_ppm(out, 0, p.width, p.height);
-    io::write_all(1, text::bytes::lent(out, head));
+    io::write_all(1, parts::lent(out, head));
     let pixels = base::product(p.width, p.height);
     let size = base::product(3, pixels);
-    io::write_all(1, text::bytes::lent(picture, size as usize));
+    io::write_all(1, parts::lent(picture, size as usize));
 }
 
 // The whole script. A loop has to end, and nothing says that a script does: it counts from a number that no script uses up.

@@ -1,3 +1,2 @@
--- Laws of numbers as text, and of rows.
+-- Laws of numbers as text.
 mod Decimal
-mod Rows

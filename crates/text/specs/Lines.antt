@@ -1,7 +1,6 @@
 -- Lines that programs write (console.md), each as its texts in order. Assumes nothing.
 use Prim.Native.Nat.{ℕ}
 use mathlib.Core.List.{List, [], _∷_}
-use Rattle.hex.specs.Hex.{byteText}
 use Rattle.text.specs.Decimal.{decimalText}
 
 -- a line's end
@@ -11,13 +10,3 @@ lineEnd = 10 ∷ []
 -- a text, a number in decimal, and a line's end
 abbrev pub countTexts : List ℕ → ℕ → List (List ℕ)
 countTexts text value = text ∷ decimalText value ∷ lineEnd ∷ []
-
--- bytes as a line of hexadecimal digits
-unfoldable pub rowTexts : List ℕ → List (List ℕ)
-rowTexts [] = lineEnd ∷ []
-rowTexts (byte ∷ rest) = byteText byte ∷ rowTexts rest
-
--- numbers in decimal, a blank before each
-unfoldable pub valuesTexts : List ℕ → List (List ℕ)
-valuesTexts [] = lineEnd ∷ []
-valuesTexts (value ∷ rest) = (32 ∷ []) ∷ decimalText value ∷ valuesTexts rest

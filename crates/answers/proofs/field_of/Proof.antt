@@ -2,7 +2,7 @@
 use mathlib.Core.Path.{ap, _∙_}
 use lib.ListN.{getD}
 use Rattle.field.specs.Field.{fieldOf}
-use Rattle.answers.proofs.Cases.{part-is}
+use Rattle.bytes.proofs.Laws.{part-is}
 use borrow.Author.Needs.{needs}
 use Rattle.answers.proofs.field_of.Statement.{statement}
 use Rattle.answers.proofs.field_of.Tie as tie

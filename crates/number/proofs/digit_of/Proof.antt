@@ -28,7 +28,10 @@ first-requires-3 : tie.Need-first-requires-3
 first-requires-3 c κs = tt
 
 returns : tie.Need-returns
-returns c = let a = c .before .before .before .before .before .before in let e : c .first3 .result ≡ digitOf (a .before .args .byte) = cc in (e, omega (arith, e, digit-bound (a .before .args .byte) (omega arith)))
+returns c =
+    let a = c .before .before .before .before .before .before in
+    let e : c .first3 .result ≡ digitOf (a .before .args .byte) = rw (c .first3 .ensures, c .before .less3 .ensures, c .before .before .first2 .ensures, c .before .before .before .less2 .ensures, c .before .before .before .before .first .ensures, c .before .before .before .before .before .less .ensures, a .wide .ensures .0) in
+    (e, omega (arith, e, digit-bound (a .before .args .byte) (omega arith)))
 
 pub digit-of-spec : {M : Type 1} → statement M
 digit-of-spec =

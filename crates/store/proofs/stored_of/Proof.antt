@@ -8,7 +8,7 @@ use Rattle.store.proofs.stored_of.Tie as tie
 
 returns : tie.Need-returns
 unfolding storedOf
-returns c = (refl, cc)
+returns c = let w = c .before .written-into .ensures in (refl, rw (w .1 .0, w .1 .1, c .before .before .before .sheet-values .ensures))
 
 pub stored-of-spec : {M : Type 1} → statement M
 stored-of-spec =

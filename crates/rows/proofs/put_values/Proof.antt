@@ -1,15 +1,15 @@
--- `text::put_values` meets its contract: each turn puts two of the texts that are left.
+-- `rows::put_values` meets its contract: each turn puts two of the texts that are left.
 use Prim.Native.Nat.{_≤_, _-_}
 use mathlib.Core.Path.{_≡_, refl, sym, ap, _∙_}
 use lib.ListN.{length, drop}
 use Rattle.room.specs.Room.{putTexts, putEnds}
-use Rattle.text.specs.Lines.{valuesTexts}
+use Rattle.rows.specs.Rows.{valuesTexts}
 use Rattle.room.proofs.Laying.{Owes, owes-all}
-use Rattle.text.proofs.Rows.{values-turn, values-last}
+use Rattle.rows.proofs.Cases.{values-turn, values-last}
 use native.Mathlib.Omega.{arith}
 use borrow.Author.Needs.{needs}
-use Rattle.text.proofs.put_values.Statement.{statement}
-use Rattle.text.proofs.put_values.Tie as tie
+use Rattle.rows.proofs.put_values.Statement.{statement}
+use Rattle.rows.proofs.put_values.Tie as tie
 
 abbrev Inv-loop : tie.InvT-loop
 Inv-loop room₀ at values end₀ i₀ t7 t8 room end i = ((i ≤ length values) × (length room ≡ length room₀)) × Owes room end (valuesTexts (drop i values)) (putTexts room₀ at (valuesTexts values)) (putEnds room₀ at (valuesTexts values))

@@ -1,10 +1,10 @@
--- `text::bytes::lent` meets its contract: a count past their length gives all of them.
+-- `parts::lent` meets its contract: a count past their length gives all of them.
 use mathlib.Core.Path.{sym}
 use lib.Seq.{length-take-le, take-all}
 use native.Mathlib.Omega.{arith}
 use borrow.Author.Needs.{needs}
-use Rattle.text.proofs.bytes.lent.Statement.{statement}
-use Rattle.text.proofs.bytes.lent.Tie as tie
+use Rattle.parts.proofs.lent.Statement.{statement}
+use Rattle.parts.proofs.lent.Tie as tie
 
 slice-aggregate-result : tie.Need-slice-aggregate-result
 slice-aggregate-result c = sym (length-take-le _ _ (c .before .if1 .taken))

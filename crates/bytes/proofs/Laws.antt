@@ -1,9 +1,9 @@
--- The first bytes of those that numbers give. Assumes nothing.
+-- For callers: the first bytes of those that numbers give. Assumes nothing.
 use Prim.Native.Nat.{ℕ}
 use mathlib.Core.List.{List}
 use mathlib.Core.Path.{_≡_, _∙_}
 use lib.ListN.{take}
 use Rattle.bytes.specs.Memory.{bytesFrom}
 
 -- what is lent of them, by how many are asked for
 pub part-is : (values : List ℕ) (from count k : ℕ) (bytes part : List ℕ) → bytes ≡ bytesFrom values from → k ≡ count → part ≡ take k bytes → part ≡ take count (bytesFrom values from)

@@ -1,11 +1,11 @@
--- `answers::poked` meets its contract: what is put are its words past the first.
+-- `keep::poked` meets its contract: what is put are its words past the first.
 use mathlib.Core.Path.{ap, _∙_}
 use lib.ListN.{getD}
 use Rattle.room.specs.Room.{putText}
-use Rattle.answers.proofs.Cases.{part-is}
+use Rattle.bytes.proofs.Laws.{part-is}
 use borrow.Author.Needs.{needs}
-use Rattle.answers.proofs.poked.Statement.{statement}
-use Rattle.answers.proofs.poked.Tie as tie
+use Rattle.keep.proofs.poked.Statement.{statement}
+use Rattle.keep.proofs.poked.Tie as tie
 
 returns : tie.Need-returns
 returns c =

@@ -6,9 +6,10 @@ use native.Mathlib.Numerals.{add-one}
 use lib.ListN.{length, getD, drop, drop-of-length-le}
 use lib.Seq.{drop-cons}
 use Rattle.hex.specs.Hex.{byteText}
 use Rattle.text.specs.Decimal.{decimalText}
 use Rattle.room.specs.Room.{putText, putEnd, putTexts, putEnds}
-use Rattle.text.specs.Lines.{lineEnd, rowTexts, valuesTexts}
+use Rattle.text.specs.Lines.{lineEnd}
+use Rattle.rows.specs.Rows.{rowTexts, valuesTexts}
 use Rattle.room.proofs.Laying.{Owes}
 
 -- what is left of a row, and of numbers

@@ -1,7 +1,7 @@
--- `answers::filled` meets its contract.
+-- `keep::filled` meets its contract.
 use borrow.Author.Needs.{needs}
-use Rattle.answers.proofs.filled.Statement.{statement}
-use Rattle.answers.proofs.filled.Tie as tie
+use Rattle.keep.proofs.filled.Statement.{statement}
+use Rattle.keep.proofs.filled.Tie as tie
 
 returns : tie.Need-returns
 returns c = let f = c .before .before .fill .ensures in (f .0, f .1)

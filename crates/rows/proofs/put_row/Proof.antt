@@ -1,15 +1,15 @@
--- `text::put_row` meets its contract: each turn puts one of the texts that are left.
+-- `rows::put_row` meets its contract: each turn puts one of the texts that are left.
 use Prim.Native.Nat.{_≤_, _-_}
 use mathlib.Core.Path.{_≡_, refl, sym, ap, _∙_}
 use lib.ListN.{length, drop}
 use Rattle.room.specs.Room.{putTexts, putEnds}
-use Rattle.text.specs.Lines.{rowTexts}
+use Rattle.rows.specs.Rows.{rowTexts}
 use Rattle.room.proofs.Laying.{Owes, owes-all}
-use Rattle.text.proofs.Rows.{row-turn, row-last}
+use Rattle.rows.proofs.Cases.{row-turn, row-last}
 use native.Mathlib.Omega.{arith}
 use borrow.Author.Needs.{needs}
-use Rattle.text.proofs.put_row.Statement.{statement}
-use Rattle.text.proofs.put_row.Tie as tie
+use Rattle.rows.proofs.put_row.Statement.{statement}
+use Rattle.rows.proofs.put_row.Tie as tie
 
 abbrev Inv-loop : tie.InvT-loop
 Inv-loop room₀ at bytes end₀ i₀ t7 room end i = ((i ≤ length bytes) × (length room ≡ length room₀)) × Owes room end (rowTexts (drop i bytes)) (putTexts room₀ at (rowTexts bytes)) (putEnds room₀ at (rowTexts bytes))

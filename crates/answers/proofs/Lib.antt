@@ -1,2 +1,0 @@
--- Laws of bytes given as numbers.
-mod Cases

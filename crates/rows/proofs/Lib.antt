@@ -1,0 +1,2 @@
+-- Laws of rows.
+mod Cases

@@ -1,0 +1,2 @@
+-- Rows of bytes and of numbers.
+pub mod Rows
