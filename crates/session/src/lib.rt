@@ -63,14 +63,7 @@ fn told(p: Page, out: &mut [u8; ROOM], line: u64, refusal: u32, s: signals::Sign
 }
 
 // Ticks that are shown, each as the form shows it; they end where one is refused.
-fn ticks(
-    m: Machine,
-    p: Page,
-    memory: &[u8],
-    out: &mut [u8; ROOM],
-    line: u64,
-    count: u32,
-) -> Shown
+fn ticks(m: Machine, p: Page, memory: &[u8], out: &mut [u8; ROOM], line: u64, count: u32) -> Shown
     requires { ⌜ Sound (m .regs) (m .generator) ⌝ }
     ensures machine { λ r. ⌜ r .machine ≡ ranOf (now (memory .entry)) m count .machine ⌝ }
     ensures sound { λ r. ⌜ Sound (r .machine .regs) (r .machine .generator) ⌝ }
@@ -198,10 +191,20 @@ fn acted(
     let lent = done.memory;
     if kind == 4 {
         let page = asks::asked(before, c, machine, out, d.lines);
-        return Desk { machine, memory: lent, lines: d.lines, page };
+        return Desk {
+            machine,
+            memory: lent,
+            lines: d.lines,
+            page,
+        };
     }
     let page = said(before, c, done, picture, out, d.lines);
-    Desk { machine, memory: lent, lines: d.lines, page }
+    Desk {
+        machine,
+        memory: lent,
+        lines: d.lines,
+        page,
+    }
 }
 
 // The desk at the next line.

@@ -6,8 +6,8 @@ ghost use lib.ListN.{length};
 ghost use Rattle.base.specs.Count.{run};
 ghost use Rattle.span.specs.Span.{Painted, plainColour, plainDot, coveredDot, Covered, Inside};
 ghost use Rattle.stretch.specs.Stretch.{fitted};
-use signals::Dot;
 use pixel::Sums;
+use signals::Dot;
 use stretch::Stretch;
 
 // One pixel put from k on: red, green and blue stored, its colour added.
