@@ -17,10 +17,11 @@ use Rattle.picture.specs.Machines.{pictured}
 use Rattle.picture.specs.declared.whole.Pictured.{Pictured}
 use Rattle.picture.proofs.Machines.{picture-sound}
 use Rattle.command.specs.declared.Command.{Command}
+use Rattle.script.specs.Script.{ticksOf}
 use Rattle.keep.specs.Keep.{number, keptMemory, keptLength}
 use Rattle.keep.proofs.Cases.{kept-other}
 use Rattle.deeds.specs.declared.Done.{Done}
-use Rattle.deeds.specs.Deeds.{kindOf, writeDone, runDone, drawDone, ticksOf, within, doneOf, pictureAfter}
+use Rattle.deeds.specs.Deeds.{kindOf, writeDone, runDone, drawDone, within, doneOf, pictureAfter}
 
 module _ (m : Machine) (lent : ℕ) where
   pub write-done : (address value : ℕ) (w : Written) → w ≡ written m address value → _≡_ {A = Done} (record { refusal = w .refusal; ticks = 0; memory = lent; machine = w .machine }) (writeDone m lent address value)

@@ -12,6 +12,7 @@ use Rattle.picture.specs.Machines.{pictured}
 use Rattle.acts.specs.Machines.{ranOf}
 use Rattle.names.specs.Names.{kinds}
 use Rattle.command.specs.declared.Command.{Command}
+use Rattle.script.specs.Script.{ticksOf}
 use Rattle.keep.specs.Keep.{number, keptLength}
 use Rattle.deeds.specs.declared.Done.{Done}
 
@@ -23,10 +24,6 @@ kindOf name = cond (ltb name 13) (getD kinds name 0) 4
 unfoldable pub writeDone : Machine → ℕ → ℕ → ℕ → Done
 writeDone m lent address value =
     record { refusal = written m address value .refusal; ticks = 0; memory = lent; machine = written m address value .machine }
-
--- the ticks that `tick` or `run` asks for: `tick` alone is one
-abbrev pub ticksOf : Command → ℕ
-ticksOf c = cond (eqb (c .left .count) 0) 1 (number c 0)
 
 -- `tick COUNT` or `run COUNT`, with the bytes lent
 unfoldable pub runDone : Machine → ℕ → List ℕ → ℕ → Done

@@ -6,7 +6,7 @@ ghost use lib.ListN.{length, take, drop};
 ghost use Rattle.counters.specs.Sound.{Sound};
 ghost use Rattle.picture.specs.Picture.{bufferOf};
 ghost use Rattle.keep.specs.Keep.{keptMemory};
-ghost use Rattle.deeds.specs.Deeds.{within, ticksOf, writeDone, runDone, drawDone, doneOf, pictureAfter};
+ghost use Rattle.deeds.specs.Deeds.{within, writeDone, runDone, drawDone, doneOf, pictureAfter};
 use command::Command;
 use machine::Machine;
 
@@ -16,15 +16,6 @@ pub struct Done {
     pub ticks: u32,
     pub memory: u32,
     pub machine: Machine,
-}
-
-// The ticks that `tick` or `run` asks for: `tick` alone is one.
-pub fn ticks_of(c: Command) -> u32
-    ensures ticks { λ r. ⌜ r ≡ ticksOf c ⌝ }
-{
-    let left = c.left;
-    let values = left.values;
-    base::first(left.count == 0, 1, values[0])
 }
 
 // `write ADDRESS VALUE`.
@@ -117,7 +108,7 @@ pub fn act(c: Command, m: Machine, lent: u32, memory: &mut [u8], picture: &mut [
         return write(m, lent, first, values[1]);
     }
     if kind == 2 {
-        return run(m, lent, memory, ticks_of(c));
+        return run(m, lent, memory, script::ticks_of(c));
     }
     if kind == 3 {
         return drawn(m, lent, memory, picture, first);

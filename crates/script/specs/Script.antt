@@ -15,3 +15,7 @@ skipped line = cond (eqb (length line) 0) true (leb (length line) 1000 && eqb (g
 -- a line of more than 1,000 bytes is too long, whatever it holds
 abbrev pub lineCommand : List ℕ → ℕ → Command
 lineCommand line memory = cond (ltb 1000 (length line)) (faulty 13 tooLong) (commandOf line memory)
+
+-- the ticks that `tick` or `run` asks for: `tick` alone is one
+abbrev pub ticksOf : Command → ℕ
+ticksOf c = cond (eqb (c .left .count) 0) 1 (getD (c .left .values) 0 0)

@@ -1,6 +1,6 @@
 // The lines of a bench script (console.md): those that answer nothing, and the command of any other.
 ghost use mathlib.Core.Path.{_≡_};
-ghost use Rattle.script.specs.Script.{skipped, lineCommand};
+ghost use Rattle.script.specs.Script.{skipped, lineCommand, ticksOf};
 use command::Command;
 use names::UNKNOWN;
 
@@ -22,4 +22,13 @@ pub fn line_command(line: &[u8], memory: u32) -> Command
         return command::faulty(UNKNOWN, 8);
     }
     command::command_of(line, memory)
+}
+
+// The ticks that `tick` or `run` asks for: `tick` alone is one.
+pub fn ticks_of(c: Command) -> u32
+    ensures ticks { λ r. ⌜ r ≡ ticksOf c ⌝ }
+{
+    let left = c.left;
+    let values = left.values;
+    base::first(left.count == 0, 1, values[0])
 }

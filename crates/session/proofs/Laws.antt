@@ -8,11 +8,11 @@ use native.Mathlib.Omega.{arith}
 use borrow.Author.Tests.{eq-eqb, ne-eqb}
 use Rattle.machine.specs.declared.Machine.{Machine}
 use Rattle.command.specs.declared.Command.{Command}
-use Rattle.script.specs.Script.{skipped, lineCommand}
+use Rattle.script.specs.Script.{skipped, lineCommand, ticksOf}
 use Rattle.acts.specs.Machines.{ranOf}
 use Rattle.keep.specs.Keep.{keptMemory}
 use Rattle.deeds.specs.declared.Done.{Done}
-use Rattle.deeds.specs.Deeds.{kindOf, ticksOf, doneOf, pictureAfter}
+use Rattle.deeds.specs.Deeds.{kindOf, doneOf, pictureAfter}
 use Rattle.deeds.proofs.Laws.{does-tick, run-machine}
 use Rattle.session.specs.Lines.{lineDone, lineMemory, linePicture}
 

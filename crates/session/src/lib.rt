@@ -5,7 +5,8 @@ ghost use lib.ListN.{length, take};
 ghost use Rattle.counters.specs.Sound.{Sound};
 ghost use Rattle.acts.specs.Machines.{ranOf};
 ghost use Rattle.keep.specs.Keep.{keptMemory};
-ghost use Rattle.deeds.specs.Deeds.{ticksOf, doneOf, pictureAfter};
+ghost use Rattle.script.specs.Script.{ticksOf};
+ghost use Rattle.deeds.specs.Deeds.{doneOf, pictureAfter};
 ghost use Rattle.session.specs.Lines.{lineDone, lineMemory, linePicture};
 use command::Command;
 use deeds::Done;
@@ -29,11 +30,10 @@ struct Shown {
     page: Page,
 }
 
-// The desk, the bytes held of a line that has not ended, and whether the script may go on.
+// The desk, and the bytes held of a line that has not ended.
 struct Left {
     desk: Desk,
     held: usize,
-    more: bool,
 }
 
 // The largest memory, the largest picture, what may wait to be written, and a line with its end and one byte more.
@@ -105,7 +105,7 @@ fn timed(d: Desk, c: Command, memory: &[u8; MEMORY], out: &mut [u8; ROOM]) -> De
 {
     let m = d.machine;
     let before = d.page;
-    let count = deeds::ticks_of(c);
+    let count = script::ticks_of(c);
     let lent = parts::lent(memory, d.memory as usize);
     let shown = ticks(m, before, lent, out, d.lines, count);
     let machine = shown.machine;
@@ -291,31 +291,7 @@ fn pieced(
             count = 0;
         }
     }
-    Left {
-        desk,
-        held: count,
-        more: true,
-    }
-}
-
-// One read of the script, and the lines that end in it.
-fn read_some(
-    d: Left,
-    line: &mut [u8; LINE],
-    memory: &mut [u8; MEMORY],
-    picture: &mut [u8; PICTURE_BYTES],
-    out: &mut [u8; ROOM],
-) -> Left
-    requires { ⌜ Sound (d .desk .machine .regs) (d .desk .machine .generator) ⌝ }
-    ensures sound { λ r. ⌜ Sound (r .desk .machine .regs) (r .desk .machine .generator) ⌝ }
-{
-    let mut input = io::large_buffer();
-    let got = libc::read(0, &mut input);
-    let count = io::count(got, &input);
-    let desk = d.desk;
-    let mut left = pieced(desk, &input[..count], d.held, line, memory, picture, out);
-    left.more = 0 < count;
-    left
+    Left { desk, held: count }
 }
 
 // The script's end: a last line may lack its own.
@@ -381,15 +357,23 @@ fn course(
         lines: 0,
         page: p,
     };
-    let mut left = Left {
-        desk,
-        held: 0,
-        more: true,
-    };
+    let mut left = Left { desk, held: 0 };
     let mut turns = u64::MAX;
     while 0 < turns {
-        left = read_some(left, &mut line, memory, picture, out);
-        turns = base::choose(left.more, turns - 1, 0);
+        let mut input = io::large_buffer();
+        let got = libc::read(0, &mut input);
+        let count = io::count(got, &input);
+        let before = left.desk;
+        left = pieced(
+            before,
+            &input[..count],
+            left.held,
+            &mut line,
+            memory,
+            picture,
+            out,
+        );
+        turns = base::choose(0 < count, turns - 1, 0);
     }
     finished(left, &line, memory, picture, out)
 }

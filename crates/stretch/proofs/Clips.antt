@@ -11,7 +11,8 @@ use lib.IntN.{pos, _-ℤ_}
 use Rattle.control.specs.Control.{field, cursorOn}
 use Rattle.cursor.specs.Cursor.{signed12, within, cursorCode}
 use Rattle.cursor.proofs.Cases.{code-beside, code-above}
-use Rattle.stretch.specs.Stretch.{codeOver, biased, Clipped}
+use Rattle.stretch.specs.Stretch.{codeOver, biased, columnsOf, Clipped}
+use Rattle.stretch.specs.declared.Columns.{Columns}
 use Rattle.stretch.specs.declared.Stretch.{Stretch}
 
 -- outside the 64 from a place on, all counted from -2,048
@@ -74,3 +75,11 @@ module _ (control position : ℕ) (s : Stretch) (on : Bool) (eo : on ≡ cursorO
       go store j true ea false eb c ec n = above control position store (s .x + j) (s .y) (rw (← et) (inl (leb-false _ _ eb)))
       go store j true ea true eb false ec n = above control position store (s .x + j) (s .y) (rw (← et) (inr (ltb-false _ _ ec)))
       go store j true ea true eb true ec n = absurd (let z : _≡_ {A = ℕ} 0 1 = cc in omega arith)
+
+  pub columns-under : ((on && leb top (s .y + 2048)) && ltb (s .y + 2048) (top + 64)) ≡ true → (left right : ℕ) → left ≡ min (first - (s .x + 2048)) (s .count) → right ≡ min (first + 64 - (s .x + 2048)) (s .count) → _≡_ {A = Columns} (record { left = left; right = right }) (columnsOf control position s)
+  unfolding columnsOf
+  columns-under u left right el er = rw (← eo, ← ef, ← et, u, ← el, ← er) refl
+
+  pub columns-none : ((on && leb top (s .y + 2048)) && ltb (s .y + 2048) (top + 64)) ≡ false → _≡_ {A = Columns} (record { left = 0; right = 0 }) (columnsOf control position s)
+  unfolding columnsOf
+  columns-none u = rw (← eo, ← et, u) refl

@@ -1,5 +1,5 @@
 -- A stretch of pixels: what of it fits, and what of it may lie under the cursor. Assumes nothing.
-use Prim.Native.Nat.{ℕ, _+_, _*_, _%_, _^_, _≤_, _<_}
+use Prim.Native.Nat.{ℕ, _+_, _-_, _*_, _/_, _%_, _^_, _≤_, _<_, min}
 use mathlib.Core.Bool.{Bool, cond, _&&_}
 use mathlib.Core.List.{List}
 use mathlib.Core.Path.{_≡_}
@@ -31,7 +31,21 @@ pub record Small (s : Stretch) (size : ℕ) : Type 0 where
 abbrev pub biased : ℕ → ℕ
 biased field = (field + 2048) % 4096
 
--- of a stretch, no pixel before `left` and none from `right` on lies under the cursor
+-- the 64 columns under the cursor, as far as the stretch has them; none where its line is not under it
+abbrev pub lineUnder : ℕ → ℕ → Stretch → Bool
+lineUnder control position s =
+    (cursorOn control && leb (biased (position % 0x1000)) (s .y + 2048)) && ltb (s .y + 2048) (biased (position % 0x1000) + 64)
+
+unfoldable pub columnsOf : ℕ → ℕ → Stretch → Columns
+columnsOf control position s =
+    cond (lineUnder control position s)
+    (record {
+      left = min (biased (position / 0x1000 % 0x1000) - (s .x + 2048)) (s .count);
+      right = min (biased (position / 0x1000 % 0x1000) + 64 - (s .x + 2048)) (s .count);
+    })
+    (record { left = 0; right = 0 })
+
+-- so of a stretch, no pixel before `left` and none from `right` on lies under the cursor
 pub record Clipped (control position : ℕ) (s : Stretch) (c : Columns) : Type 0 where
   pub order : c .left ≤ c .right
   pub end : c .right ≤ s .count

@@ -1,7 +1,7 @@
 // A stretch of pixels (01, "Rows and pixels"): what of it fits a buffer, and what of it may lie under the cursor. Any numbers may be given.
 ghost use mathlib.Core.Path.{_≡_};
 ghost use Prim.Native.Nat.{_-_, min};
-ghost use Rattle.stretch.specs.Stretch.{fitted, Small, Clipped};
+ghost use Rattle.stretch.specs.Stretch.{fitted, Small, columnsOf, Clipped};
 
 // Pixels in a row: where the first is stored, its place in the memory, its column and its line, and how many there are.
 pub struct Stretch {
@@ -33,6 +33,7 @@ fn edge(a: u64, b: u64, most: u64) -> u64
 
 // The part of a stretch that may lie under the cursor. Columns and lines are counted from -2,048, where a signed position begins.
 pub fn clip(control: u32, position: u32, s: Stretch) -> Columns
+    ensures columns { λ c. ⌜ c ≡ columnsOf control position s ⌝ }
     ensures clipped { λ c. ⌜ Clipped control position s c ⌝ }
 {
     let count = s.count;

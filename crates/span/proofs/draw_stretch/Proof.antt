@@ -8,13 +8,13 @@ use Rattle.span.proofs.draw_stretch.Tie as tie
 draw-plain-requires : tie.Need-draw-plain-requires
 draw-plain-requires c κs =
     let clip = c .before in
-    let cut = clip .clip .ensures in
+    let cut = clip .clip .ensures .1 in
     record { small = clip .before .fitting .ensures .1; order = omega arith; last = omega (arith, cut .order, cut .end) }
 
 draw-under-requires : tie.Need-draw-under-requires
 draw-under-requires c κs =
     let clip = c .before .before .before .before .before in
-    let cut = clip .clip .ensures in
+    let cut = clip .clip .ensures .1 in
     let small = clip .before .fitting .ensures .1 in
     record { small = record { bytes = omega (arith, small .bytes); columns = small .columns; places = small .places }; order = cut .order; last = cut .end }
 
@@ -22,7 +22,7 @@ draw-plain-requires-2 : tie.Need-draw-plain-requires-2
 draw-plain-requires-2 c κs =
     let clip = c .before .before .before .before .before .before .before .before .before in
     let small = clip .before .fitting .ensures .1 in
-    record { small = record { bytes = omega (arith, small .bytes); columns = small .columns; places = small .places }; order = clip .clip .ensures .end; last = omega arith }
+    record { small = record { bytes = omega (arith, small .bytes); columns = small .columns; places = small .places }; order = clip .clip .ensures .1 .end; last = omega arith }
 
 returns : tie.Need-returns
 returns c =
@@ -32,7 +32,7 @@ returns c =
     let fit = clip .before in
     let a = fit .before .before .before .args in
     rw (← fit .fitting .ensures .0)
-    (painted-stretch (a .control) (a .position) (a .table .now) (a .store .now) (a .colours .now) (a .memory .now) (fit .fitting .result) (clip .clip .result) (clip .clip .ensures)
+    (painted-stretch (a .control) (a .position) (a .table .now) (a .store .now) (a .colours .now) (a .memory .now) (fit .fitting .result) (clip .clip .result) (clip .clip .ensures .1)
     (left .draw-plain .ensures) (under .draw-under .ensures) (c .before .before .draw-plain2 .ensures))
 
 pub draw-stretch-spec : {M : Type 1} → statement M

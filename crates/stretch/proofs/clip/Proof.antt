@@ -1,7 +1,7 @@
--- `stretch::clip` meets its contract: outside the columns from `left` to `right` the cursor has no code. Assumes nothing.
+-- `stretch::clip` meets its contract: the columns, and that outside them the cursor has no code. Assumes nothing.
 use native.Mathlib.Omega.{arith}
 use mathlib.Core.Path.{refl}
-use Rattle.stretch.proofs.Clips.{clip-columns, clip-nothing}
+use Rattle.stretch.proofs.Clips.{clip-columns, clip-nothing, columns-under, columns-none}
 use Rattle.stretch.proofs.clip.Statement.{statement}
 use Rattle.stretch.proofs.clip.Tie as tie
 
@@ -25,8 +25,14 @@ clip-spec =
     (λ c.
     let on = c .before .before .before .before .before in
     let a = on .before .args in
-    clip-columns (a .control) (a .position) (a .s) _ (on .is-cursor-on .ensures) _ _ refl refl _ _ (c .before .edge .ensures) (c .edge2 .ensures))
+    let left = c .before .edge .ensures in
+    let right = c .edge2 .ensures in (
+      columns-under (a .control) (a .position) (a .s) _ (on .is-cursor-on .ensures) _ _ refl refl (c .before .before .if1 .taken) _ _ left right,
+      clip-columns (a .control) (a .position) (a .s) _ (on .is-cursor-on .ensures) _ _ refl refl _ _ left right,
+    ))
     (λ c.
     let on = c .before .before .before in
-    let a = on .before .args in
-    clip-nothing (a .control) (a .position) (a .s) _ (on .is-cursor-on .ensures) _ _ refl refl (c .if1 .left)))
+    let a = on .before .args in (
+      columns-none (a .control) (a .position) (a .s) _ (on .is-cursor-on .ensures) _ _ refl refl (c .if1 .left),
+      clip-nothing (a .control) (a .position) (a .s) _ (on .is-cursor-on .ensures) _ _ refl refl (c .if1 .left),
+    )))

@@ -1,7 +1,7 @@
--- `deeds::ticks_of` meets its contract.
+-- `script::ticks_of` meets its contract.
 use lib.Dec.{lit<}
-use Rattle.deeds.proofs.ticks_of.Statement.{statement}
-use Rattle.deeds.proofs.ticks_of.Tie as tie
+use Rattle.script.proofs.ticks_of.Statement.{statement}
+use Rattle.script.proofs.ticks_of.Tie as tie
 
 returns : tie.Need-returns
 returns c = c .first .ensures
