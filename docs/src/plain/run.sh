@@ -18,8 +18,8 @@ for tool in ld.lld llvm-ar; do ln -s "$tools/bin/clang" "$out/toolchain/bin/$too
 printf '#!/bin/sh\nfor w in "$@"; do case $w in *.bc) cp "$w" "%s/module.bc" ;; esac; done\nexec "%s/bin/clang" "$@"\n' "$out" "$tools" >"$out/toolchain/bin/clang"
 chmod +x "$out/toolchain/bin/clang"
 
-deps='base control units screen registers pixel generator machine frame picture'
-rt check $deps speed >"$out/check" 2>&1 || { tail "$out/check" >&2; exit 1; }
+deps=$(sed -n 's/^speed: //p' crates.txt)
+rt check speed >"$out/check" 2>&1 || { tail "$out/check" >&2; exit 1; }
 set -- "${1:-200}"
 words=''
 for d in $deps; do words="$words --extern $d=target/rlib/$d.rlib"; done
