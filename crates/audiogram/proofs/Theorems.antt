@@ -1,7 +1,7 @@
 -- What keeps an ear from the wrong record: which entry each pixel is drawn in, and that picture memory holds it. Assumes nothing.
 use Prim.Native.Nat.{ℕ, zero, suc, _+_, _*_, _-_, _/_, _%_, _^_, _≤_, _<_, min}
 use mathlib.Core.Path.{_≡_, refl, sym, ap, _∙_}
-use mathlib.Core.Bool.{Bool, true, false, cond, _||_, true≢false}
+use mathlib.Core.Bool.{Bool, true, false, cond, true≢false}
 use mathlib.Core.List.{List, [], _∷_, _++_, map}
 use native.Mathlib.Nat.{add-zero}
 use native.Mathlib.Omega.{arith}
@@ -9,13 +9,13 @@ use lib.Dec.{leb}
 use borrow.Author.Tests.{leb-true, leb-false}
 use lib.ListN.{length, getD, drop, length-append, length-drop, List·getD-append, List·getD-eq-default}
 use lib.Seq.{getD-append-add, getD-drop}
-use Rattle.base.specs.Count.{some, run}
+use Rattle.base.specs.Count.{run}
 use Rattle.base.proofs.Run.{run-length, run-entry}
 use Rattle.base.proofs.Some.{some-none, some-at}
 use Rattle.memory.specs.Memory.{pixelAt}
 use Rattle.memory.proofs.Bytes.{pixel-inside}
 use Rattle.marks.specs.Marks.{mark}
-use Rattle.ear.specs.Ear.{measured, columns, pointOf, keyOf, lastBefore, coveredAt, shows}
+use Rattle.ear.specs.Ear.{measured, columns, pointOf, lastBefore, coveredAt, shows}
 use Rattle.form.specs.Form.{form}
 use Rattle.entry.specs.Entry.{paperEntry, rightEntry, leftEntry, formEntry, entryAt}
 use Rattle.audiogram.specs.Picture.{size, byteAt, drawn}

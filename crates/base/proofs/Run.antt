@@ -1,12 +1,11 @@
 -- Laws of a run of numbers, of a count and of a test over one. Assumes nothing.
-use Prim.Native.Nat.{ℕ, zero, suc, _+_, _≤_, _<_}
-use mathlib.Core.Path.{_≡_, refl, ap, _∙_, sym}
-use mathlib.Core.Bool.{Bool, true, false, cond, _&&_, _||_}
-use mathlib.Core.List.{List, [], _∷_, _++_}
+use Prim.Native.Nat.{ℕ, zero, suc, _+_, _<_}
+use mathlib.Core.Path.{_≡_, refl, ap}
+use mathlib.Core.List.{List, _∷_, _++_}
 use native.Mathlib.Nat.{add-zero, add-suc, suc-add, zero-add}
 use native.Mathlib.Omega.{arith}
 use lib.ListN.{length, getD}
-use Rattle.base.specs.Count.{count, some, run}
+use Rattle.base.specs.Count.{run}
 
 -- a run has as many entries as it counts, and each is the function's
 pub run-length : {A : Type 0} (f : ℕ → A) (from n : ℕ) → length (run f from n) ≡ n

@@ -1,7 +1,7 @@
 -- What callers know of control A's two tables, each rule from one test over the whole table. Assumes nothing.
-use Prim.Native.Nat.{ℕ, _+_, _*_, _^_, _<_, _≤_}
+use Prim.Native.Nat.{ℕ, _+_, _*_, _^_, _<_}
 use mathlib.Core.Path.{_≡_}
-use mathlib.Core.Bool.{Bool, cond}
+use mathlib.Core.Bool.{cond}
 use native.Mathlib.Omega.{arith}
 use lib.Dec.{leb, eqb, eqb→eq, leb→le}
 use Rattle.base.proofs.Table.{entry}

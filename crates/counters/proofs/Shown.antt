@@ -14,7 +14,7 @@ use Rattle.limits.specs.Limits.{Accepted}
 use Rattle.units.specs.declared.Screen.{Screen}
 use Rattle.lines.specs.Lines.{period, isVDisplay, secondHalf, inLine, inDisplay, visible, tickNumber}
 use Rattle.counters.specs.Sound.{shownBefore}
-use Rattle.lines.specs.declared.Period.the-variants.{PreEqualise, VSync, PostEqualise, VBlank, VDisplay}
+use Rattle.lines.specs.declared.Period.the-variants.{PreEqualise, VSync, PostEqualise, VBlank}
 
 -- a test and what it says, as a case
 pub below : (a b : ℕ) → (a < b) ⊎ (b ≤ a)

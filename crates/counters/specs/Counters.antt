@@ -1,6 +1,5 @@
 -- The generator record at its beginning (01, "Starting a screen"), and whether its next tick is out of flyback (01, "Refusal numbers", 5).
 -- Assumes nothing.
-use Prim.Native.Nat.{ℕ}
 use mathlib.Core.Bool.{Bool, false, _&&_}
 use Rattle.control.specs.Control.{running}
 use Rattle.registers.specs.declared.Registers.{Registers}

@@ -1,7 +1,7 @@
 -- The one condition (01, "What nobody may get past"): what every record satisfies that the calls can give from the beginning.
 -- Assumes nothing.
 use Prim.Native.Nat.{ℕ, _/_, _%_, _<_}
-use mathlib.Core.Bool.{Bool, true, false}
+use mathlib.Core.Bool.{true, false}
 use mathlib.Core.Path.{_≡_}
 use Rattle.base.specs.Count.{count}
 use Rattle.control.specs.Control.{running, outside}

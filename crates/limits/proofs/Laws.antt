@@ -1,11 +1,10 @@
 -- A screen may start exactly when none of 10 to 17 holds, and what callers know of one that may. Assumes nothing.
-use Prim.Native.Nat.{ℕ, suc, _+_, _%_, _<_, _≤_}
-use mathlib.Core.Path.{_≡_, refl, _∙_, ap}
+use Prim.Native.Nat.{ℕ, suc, _+_, _%_}
+use mathlib.Core.Path.{_≡_, refl}
 use mathlib.Core.Bool.{Bool, true, false, not, cond, _||_, true≢false}
 use native.Mathlib.Omega.{arith}
 use lib.Dec.{ltb, eqb}
 use borrow.Author.Tests.{ltb-true, ltb-false, eqb-true, eqb-false, not-false, lt-ltb, le-ltb, eq-eqb, ne-eqb}
-use Rattle.units.specs.Parameters.{displayFrom, halfTicks}
 use Rattle.range.specs.Range.{most, outOfRange, refuses10}
 use Rattle.limits.specs.Limits.{refuses11, refuses12, refuses13, refuses14, refuses15, refuses16, refuses17, laterLimit, limitOf, Within, Bounded, Accepted}
 use Rattle.units.specs.declared.Screen.{Screen}

@@ -1,5 +1,5 @@
 -- What the code finds of a place is its moment, and a screen that was read from registers has counts of 32 bits. Assumes nothing.
-use Prim.Native.Nat.{ℕ, _+_, _*_, _/_, _%_, _^_, _<_}
+use Prim.Native.Nat.{ℕ, _+_, _%_, _^_, _<_}
 use mathlib.Core.Bool.{Bool, true, false, cond, _&&_}
 use mathlib.Core.List.{List}
 use mathlib.Core.Path.{_≡_, refl}
@@ -12,7 +12,6 @@ use lib.ListN.{getD}
 use Rattle.units.specs.Parameters.{screenOf, halfTicks, displayFrom, halvesToVBlank, halvesToVDisplay, halvesInFrame}
 use Rattle.units.specs.declared.Screen.{Screen}
 use Rattle.lines.specs.Lines.{period, isVSync, isVDisplay, secondHalf, inLine, visible, lowIn, opens, closes, nextHalf, nextAt, momentOf}
-use Rattle.lines.specs.declared.Moment.{Moment}
 use Rattle.lines.specs.declared.Period.{Period}
 use Rattle.lines.specs.declared.Period.the-variants.{PreEqualise, VSync, PostEqualise, VBlank, VDisplay}
 

@@ -1,6 +1,6 @@
 -- Lines and frames (01, the section of that name): where a tick stands. s: the screen, half: the half line's number in the frame,
 -- at: the tick's number in the half line. Assumes nothing.
-use Prim.Native.Nat.{ℕ, _+_, _*_, _/_, _%_}
+use Prim.Native.Nat.{ℕ, _+_, _*_, _%_}
 use mathlib.Core.Bool.{Bool, true, false, not, cond, _&&_, _||_}
 use lib.Dec.{ltb, leb, eqb}
 use Rattle.units.specs.Parameters.{halfTicks, displayFrom, halvesToVBlank, halvesToVDisplay, halvesInFrame}

@@ -1,15 +1,14 @@
 -- LineStart and bits 2 and 5 to 9 of control A change nothing but their own reading. Assumes nothing.
-use Prim.Native.Nat.{ℕ, _+_, _*_, _/_, _%_}
+use Prim.Native.Nat.{ℕ, _+_, _/_, _%_}
 use mathlib.Core.Bool.{Bool, true, false, not, cond}
 use mathlib.Core.List.{List}
-use mathlib.Core.Path.{_≡_, refl, ap, _∙_}
+use mathlib.Core.Path.{_≡_, refl, ap}
 use native.Mathlib.Omega.{arith}
 use lib.Dec.{eqb}
-use Rattle.base.specs.Count.{some, run}
+use Rattle.base.specs.Count.{some}
 use Rattle.base.proofs.Run.{run-same}
 use Rattle.control.specs.Control.{field, bit, running, plain, forcedBlank, transferring, cursorOn, outside, depth, increment}
 use Rattle.limits.specs.Limits.{laterLimit, limitOf}
-use Rattle.units.specs.declared.Screen.{Screen}
 use Rattle.registers.specs.declared.Registers.{Registers}
 use Rattle.memory.specs.Memory.{pixelShown}
 use Rattle.pixel.specs.Dot.{dotAt}
@@ -20,7 +19,7 @@ use Rattle.counters.specs.Rows.{screen, visibleAt, shows, taken, transferAt, he
 use Rattle.generator.specs.Tick.{dotOf, dots, refuses20, cleared, sumsAfter, seenAfter, stepWith, signalsWith, tickRefusal, tickOf}
 use Rattle.counters.specs.declared.Generator.{Generator}
 use Rattle.generator.specs.declared.Ticked.{Ticked}
-use Rattle.machine.specs.Alike.{SameMode, withLineStart, Alike, SameColours}
+use Rattle.machine.specs.Alike.{SameMode, Alike, SameColours}
 
 -- a field from bit 15 on is one of the word past bit 10
 past-ten : (n : ℕ) → n / 1024 / 32 % 32 ≡ field 15 5 n

@@ -12,7 +12,6 @@ use Rattle.access.specs.Access.{refuses3, writeRefusal}
 use Rattle.checksum.specs.Words.{checksumWords}
 use Rattle.map.specs.declared.Place.{Place}
 use Rattle.registers.specs.declared.Registers.{Registers}
-use Rattle.counters.specs.Rows.{screen}
 use Rattle.counters.specs.Counters.{displaying, fresh}
 use Rattle.generator.specs.Tick.{tickOf}
 use Rattle.machine.specs.declared.Machine.{Machine}

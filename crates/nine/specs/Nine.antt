@@ -1,7 +1,7 @@
 -- The nine checksum bytes of a machine (console.md, `nine`). Assumes nothing.
 use Prim.Native.Nat.{ℕ}
 use mathlib.Core.Bool.{cond}
-use mathlib.Core.List.{List, [], _∷_}
+use mathlib.Core.List.{[], _∷_}
 use lib.Dec.{eqb}
 use Rattle.machine.specs.Rules.{answered}
 use Rattle.machine.specs.declared.Machine.{Machine}

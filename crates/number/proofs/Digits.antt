@@ -1,15 +1,15 @@
 -- What a number comes to digit by digit. Assumes nothing.
-use Prim.Native.Nat.{ℕ, zero, suc, _+_, _*_, _-_, _^_, _≤_, _<_}
+use Prim.Native.Nat.{ℕ, _+_, _*_, _-_, _^_, _≤_, _<_}
 use mathlib.Core.Bool.{Bool, true, false, cond, _&&_, _||_, or-assoc, or-comm, or-false}
 use mathlib.Core.List.{List, [], _∷_}
-use mathlib.Core.Path.{_≡_, refl, sym, ap, _∙_}
+use mathlib.Core.Path.{_≡_, refl, sym, _∙_}
 use native.Mathlib.Numerals.{add-one}
 use native.Mathlib.Omega.{arith}
 use borrow.Author.Tests.{lt-ltb, le-ltb, eq-eqb, ne-eqb, ltb-true, ltb-false}
 use lib.Dec.{ltb, leb, eqb}
 use lib.ListN.{length, getD, take, drop, length-drop, drop-of-length-le, List·getD-eq-default}
 use lib.Seq.{drop-cons, take-all}
-use Rattle.number.specs.Numbers.{digitOf, baseOf, valueFrom, strange, largest, numberWith, digitsNumber, numberOf}
+use Rattle.number.specs.Numbers.{digitOf, baseOf, valueFrom, strange, largest, digitsNumber, numberOf}
 use Rattle.number.specs.declared.Number.{Number}
 
 pub digit-bound : (byte : ℕ) → byte < 256 → digitOf byte ≤ 255

@@ -1,8 +1,7 @@
 -- The worked lines, by computation: each one's fault, and where a good line's two levels come to stand. Assumes nothing.
-use Prim.Native.Nat.{ℕ}
 use mathlib.Core.Path.{_≡_, refl}
-use mathlib.Core.List.{List, [], _∷_, map}
-use lib.ListN.{getD, set}
+use mathlib.Core.List.{[], _∷_, map}
+use lib.ListN.{set}
 use Rattle.words.specs.Words
 use Rattle.number.specs.Numbers
 use Rattle.thresholds.specs.Thresholds

@@ -7,7 +7,7 @@ use mathlib.Core.Logic.{_⊎_, inl, inr, ⊎-elim}
 use native.Mathlib.Omega.{arith}
 use lib.ListN.{length, getD, set, length-set, length-replicate}
 use lib.Seq.{getD-set-same, getD-set-other}
-use borrow.Author.Tests.{eqb-true, eqb-false}
+use borrow.Author.Tests.{eqb-false}
 use Rattle.map.specs.declared.Place.{Place}
 use Rattle.map.specs.declared.Place.the-variants.{Reserved, Screen, Mask, Control, Top, Colour, Checksum, Position, Palette, Store}
 use Rattle.registers.specs.declared.Registers.{Registers}

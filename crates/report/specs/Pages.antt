@@ -1,7 +1,7 @@
 -- A page: what a session has said so far, and what it says next, by its form. Assumes nothing.
 use Prim.Native.Nat.{ℕ, _+_}
-use mathlib.Core.Bool.{Bool, cond}
-use mathlib.Core.List.{List, [], _∷_, _++_}
+use mathlib.Core.Bool.{cond}
+use mathlib.Core.List.{List, [], _∷_}
 use lib.Dec.{ltb, eqb}
 use Rattle.signals.specs.Signals.{silent}
 use Rattle.signals.specs.declared.Signals.{Signals}

@@ -1,12 +1,12 @@
 -- Bytes laid into a room, one after the other. Assumes nothing.
 use Prim.Native.Nat.{ℕ, zero, suc, _+_, _-_, _≤_, _<_}
-use mathlib.Core.Bool.{Bool, true, false, cond, _&&_}
+use mathlib.Core.Bool.{Bool, true, false, cond}
 use mathlib.Core.List.{List, [], _∷_, _++_}
 use mathlib.Core.Path.{_≡_, refl, sym, _∙_}
 use native.Mathlib.Numerals.{add-one}
 use borrow.Author.Tests.{lt-ltb, le-ltb, le-leb, lt-leb}
 use lib.ListN.{length, getD, set, length-set}
-use Rattle.room.specs.Room.{laid, fits, putText, putEnd, putTexts, putEnds}
+use Rattle.room.specs.Room.{laid, putText, putEnd, putTexts, putEnds}
 
 module _ (byte : ℕ → ℕ) (room : List ℕ) (at : ℕ) where
   pub laid-none : room ≡ laid byte room at 0

@@ -1,5 +1,5 @@
 -- The counts of a frame whose parameters fit 24 bits: each is exact in 64 bits. Assumes nothing.
-use Prim.Native.Nat.{ℕ, _*_, _/_, _^_, _<_, _≤_}
+use Prim.Native.Nat.{ℕ, _*_, _/_, _^_, _<_}
 use mathlib.Core.Path.{_≡_}
 use native.Mathlib.Nat.{min-eq-left, mul-le-mul}
 use native.Mathlib.Omega.{arith}

@@ -4,8 +4,6 @@ use mathlib.Core.Bool.{cond}
 use lib.Dec.{eqb}
 use Rattle.units.specs.Parameters.{halfTicks, halvesInFrame, rowLength}
 use Rattle.limits.specs.Limits.{limitOf}
-use Rattle.units.specs.declared.ScreenUnits.{ScreenUnits}
-use Rattle.units.specs.declared.Pixels.{Pixels}
 use Rattle.units.specs.declared.Screen.{Screen}
 use Rattle.screen.specs.declared.Totals.{Totals}
 

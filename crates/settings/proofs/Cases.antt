@@ -1,6 +1,6 @@
 -- Cases of this crate's functions, over plain numbers and lists. Assumes nothing.
 use Prim.Native.Nat.{ℕ, _/_, _%_}
-use mathlib.Core.Path.{_≡_, _∙_}
+use mathlib.Core.Path.{_≡_}
 use mathlib.Core.List.{List}
 use lib.ListN.{getD}
 use Rattle.settings.specs.Settings.{addressOf, valueOf, settings, rowText, settingsByte}

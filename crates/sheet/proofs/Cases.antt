@@ -1,14 +1,14 @@
 -- What the proofs of `sheet` use. A loop keeps what is done, with what is left, equal to the whole; then the ways out. Assumes nothing.
-use Prim.Native.Nat.{ℕ, zero, suc, _+_, _-_, _*_, _≤_, _<_}
+use Prim.Native.Nat.{ℕ, zero, suc, _+_, _*_, _<_}
 use mathlib.Core.Path.{_≡_, refl, _∙_, sym}
-use mathlib.Core.Bool.{Bool, cond, _||_, or-assoc, or-false}
+use mathlib.Core.Bool.{cond}
 use mathlib.Core.List.{List, _∷_}
 use borrow.Author.Tests.{eq-eqb, ne-eqb}
 use native.Mathlib.Numerals.{add-one}
 use native.Mathlib.Omega.{arith}
-use lib.Dec.{eqb, ltb, eqb·suc-zero}
-use lib.ListN.{length, getD, drop, set, replicate, drop-of-length-le}
-use lib.Seq.{sets, sets-eq, drop-cons, drop-drop}
+use lib.Dec.{eqb, eqb·suc-zero}
+use lib.ListN.{length, getD, drop, set, replicate}
+use lib.Seq.{sets, drop-cons, drop-drop}
 use Rattle.tags.specs.Encoding.{tags}
 use Rattle.sheet.specs.Reader.{pair, fieldRefusal, refusalFrom, valuesFrom, readSheet}
 use Rattle.sheet.specs.declared.Sheet.{Sheet}

@@ -1,14 +1,14 @@
 -- What reading comes to, for callers: which sheets are accepted. Assumes nothing.
-use Prim.Native.Nat.{ℕ, zero, suc, _+_, _*_, _/_, _%_, _≤_, _<_}
-use mathlib.Core.Path.{_≡_, refl, _∙_}
-use mathlib.Core.Bool.{Bool, true, false, not, cond, _||_, true≢false}
-use mathlib.Core.List.{List, [], _∷_, _++_, append-nil}
+use Prim.Native.Nat.{ℕ, zero, suc, _+_, _*_, _/_, _%_, _≤_}
+use mathlib.Core.Path.{_≡_, refl}
+use mathlib.Core.Bool.{Bool, true, false, not, cond}
+use mathlib.Core.List.{List, [], _∷_}
 use native.Mathlib.Omega.{arith}
 use borrow.Author.Tests.{eq-eqb, le-ltb, ltb-false, eqb-true}
-use lib.Dec.{eqb, ltb, eqb→eq, eqb·suc-zero}
-use lib.ListN.{length, getD, drop, drop-of-length-le}
+use lib.Dec.{eqb, ltb, eqb·suc-zero}
+use lib.ListN.{length, getD, drop}
 use lib.Seq.{drop-cons, getD-drop}
-use Rattle.tags.specs.Encoding.{tags, fields, encoding, over, Bytes, Encodes}
+use Rattle.tags.specs.Encoding.{tags, fields, over, Bytes, Encodes}
 use Rattle.sheet.specs.Reader.{pair, fieldRefusal, refusalFrom, valuesFrom, readSheet}
 use Rattle.sheet.specs.declared.Sheet.{Sheet}
 

@@ -2,8 +2,6 @@
 use Prim.Native.Nat.{ℕ, _+_, _*_, _/_}
 use mathlib.Core.List.{List}
 use lib.ListN.{getD}
-use Rattle.units.specs.declared.ScreenUnits.{ScreenUnits}
-use Rattle.units.specs.declared.HalfLines.{HalfLines}
 use Rattle.units.specs.declared.Screen.{Screen}
 
 -- the registers #021 to #02E as a screen

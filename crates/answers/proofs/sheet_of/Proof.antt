@@ -1,5 +1,5 @@
 -- `answers::sheet_of` meets its contract: the bytes lent are those of its numbers.
-use mathlib.Core.Path.{_≡_, refl, sym, ap, _∙_}
+use mathlib.Core.Path.{ap, _∙_}
 use lib.ListN.{take}
 use Rattle.sheet.specs.Reader.{readSheet}
 use borrow.Author.Needs.{needs}

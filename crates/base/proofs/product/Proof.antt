@@ -1,7 +1,7 @@
 -- `base::product` meets its contract. A factor is compared with the quotient, so that the product is made only where it fits.
-use Prim.Native.Nat.{ℕ, _*_, _≤_, _<_, _/_}
+use Prim.Native.Nat.{ℕ, _*_}
 use mathlib.Core.Path.{ap, sym, _∙_}
-use native.Mathlib.Nat.{mul-zero, min-eq-left, min-eq-right, le-div-iff-mul-le, div-lt-iff-lt-mul, le-of-lt}
+use native.Mathlib.Nat.{mul-zero, min-eq-left, min-eq-right, le-div-iff-mul-le, div-lt-iff-lt-mul}
 use native.Mathlib.Omega.{arith}
 use borrow.Author.Needs.{needs}
 use Rattle.base.specs.Sum.{capped}

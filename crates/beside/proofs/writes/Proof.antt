@@ -2,7 +2,6 @@
 use Prim.Native.Nat.{_≤_, _-_}
 use lib.ListN.{length}
 use Rattle.counters.specs.Sound.{Sound}
-use native.Mathlib.Omega.{arith}
 use borrow.Author.Needs.{needs}
 use Rattle.beside.proofs.writes.Statement.{statement}
 use Rattle.beside.proofs.writes.Tie as tie

@@ -1,6 +1,6 @@
 -- `buses::bus_text` meets its contract: one bit more at each turn.
-use Prim.Native.Nat.{ℕ, _+_, _/_, _%_, _^_, _≤_, _-_}
-use mathlib.Core.Path.{_≡_, sym, _∙_}
+use Prim.Native.Nat.{_+_, _/_, _%_, _^_, _≤_, _-_}
+use mathlib.Core.Path.{_≡_, _∙_}
 use native.Mathlib.Omega.{arith}
 use Rattle.room.specs.Room.{laid}
 use Rattle.room.proofs.Laying.{laid-none, laid-next}

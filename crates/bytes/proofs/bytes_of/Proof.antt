@@ -1,8 +1,8 @@
 -- `bytes::bytes_of` meets its contract: one number more at each turn.
-use Prim.Native.Nat.{ℕ, _+_, _*_, _%_, _≤_, _<_, _-_}
-use mathlib.Core.Path.{_≡_, refl, sym, _∙_, ap}
+use Prim.Native.Nat.{_+_, _%_, _≤_, _-_}
+use mathlib.Core.Path.{_≡_}
 use native.Mathlib.Nat.{zero-add}
-use lib.ListN.{length, getD, replicate}
+use lib.ListN.{getD, replicate}
 use Rattle.room.specs.Room.{laid}
 use Rattle.room.proofs.Laying.{laid-none, laid-next}
 use native.Mathlib.Omega.{arith}

@@ -1,7 +1,6 @@
 -- `chart::pieced` is safe and ends: each turn takes a byte. Assumes nothing.
 use Prim.Native.Nat.{_-_}
 use mathlib.Core.Path.{_≡_, refl}
-use native.Mathlib.Omega.{arith}
 use lib.ListN.{length}
 use borrow.Author.Needs.{needs}
 use Rattle.chart.proofs.pieced.Statement.{statement}

@@ -1,6 +1,5 @@
 -- `deeds::run` meets its contract: the machine's own ticks.
 use Rattle.deeds.proofs.Laws.{run-done}
-use borrow.Author.Needs.{needs}
 use Rattle.deeds.proofs.run.Statement.{statement}
 use Rattle.deeds.proofs.run.Tie as tie
 

@@ -2,7 +2,6 @@
 use mathlib.Core.Path.{refl}
 use native.Mathlib.Omega.{arith}
 use borrow.Author.Tests.{le-leb, lt-leb}
-use borrow.Author.Needs.{needs}
 use Rattle.deeds.proofs.within.Statement.{statement}
 use Rattle.deeds.proofs.within.Tie as tie
 

@@ -1,6 +1,5 @@
 -- `deeds::write` meets its contract: the machine's own write.
 use Rattle.deeds.proofs.Laws.{write-done}
-use borrow.Author.Needs.{needs}
 use Rattle.deeds.proofs.write.Statement.{statement}
 use Rattle.deeds.proofs.write.Tie as tie
 

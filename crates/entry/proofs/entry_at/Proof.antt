@@ -1,5 +1,4 @@
 -- `entry::entry_at` meets its contract: the first that shows. Assumes nothing.
-use mathlib.Core.Path.{_≡_}
 use native.Mathlib.Omega.{arith}
 use Rattle.entry.proofs.Cases.{entry-right, entry-left, entry-form, entry-paper}
 use Rattle.entry.proofs.entry_at.Statement.{statement}

@@ -1,10 +1,10 @@
 -- `form::shows` meets its contract: one label more at each turn. Assumes nothing.
 use Prim.Native.Nat.{_≤_, _-_}
-use mathlib.Core.Path.{_≡_, refl}
+use mathlib.Core.Path.{_≡_}
 use mathlib.Core.Bool.{_||_}
 use native.Mathlib.Omega.{arith}
 use Rattle.base.specs.Count.{some}
-use Rattle.form.specs.Form.{grid, labelled, form}
+use Rattle.form.specs.Form.{grid, labelled}
 use Rattle.form.proofs.Cases.{form-none, form-more, form-whole}
 use borrow.Author.Needs.{needs}
 use Rattle.form.proofs.shows.Statement.{statement}

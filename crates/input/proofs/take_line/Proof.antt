@@ -1,6 +1,6 @@
 -- `input::take_line` meets its contract: each turn takes a byte, and what is left comes to the same line.
-use Prim.Native.Nat.{ℕ, _+_, _*_, _%_, _≤_, _<_, _-_}
-use mathlib.Core.Path.{_≡_, refl, sym, _∙_, ap}
+use Prim.Native.Nat.{_≤_, _-_}
+use mathlib.Core.Path.{_≡_, refl}
 use lib.ListN.{length, length-set}
 use Rattle.input.specs.Input.{takenLine, takenRoom}
 use Rattle.input.proofs.Taking.{Comes, comes-all, comes-ended, comes-over, comes-on, comes-full}

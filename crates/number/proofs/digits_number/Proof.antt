@@ -1,6 +1,6 @@
 -- `number::digits_number` meets its contract: what the loop knows of the value and of the digits passed is kept by each digit.
-use Prim.Native.Nat.{ℕ, _+_, _≤_, _<_, _-_}
-use mathlib.Core.Path.{_≡_, sym, _∙_}
+use Prim.Native.Nat.{_≤_, _-_}
+use mathlib.Core.Path.{_≡_}
 use mathlib.Core.Bool.{_||_}
 use lib.ListN.{length, drop}
 use Rattle.number.specs.Numbers as spec

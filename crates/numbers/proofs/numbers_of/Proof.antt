@@ -1,6 +1,5 @@
 -- `numbers::numbers_of` meets its contract, by each way out of the count.
-use mathlib.Core.Path.{_≡_, refl, sym, _∙_, ap}
-use Prim.Native.Nat.{ℕ}
+use mathlib.Core.Path.{ap}
 use Rattle.numbers.specs.declared.Numbers.{Numbers}
 use Rattle.numbers.proofs.Cases.{numbers-few, numbers-many, numbers-read}
 use native.Mathlib.Omega.{arith}

@@ -1,7 +1,6 @@
 -- `numbers::values_of` meets its contract: the words from the place reached on are those from k on.
-use Prim.Native.Nat.{ℕ, _+_, _≤_, _<_, _-_}
-use mathlib.Core.Path.{_≡_, refl, sym, _∙_, ap}
-use native.Mathlib.Nat.{zero-add}
+use Prim.Native.Nat.{ℕ, _+_, _≤_, _-_}
+use mathlib.Core.Path.{_≡_, refl}
 use lib.ListN.{drop}
 use Rattle.words.specs.Words.{wordAt}
 use Rattle.numbers.specs.Arguments.{faultUpTo, valuesUpTo}

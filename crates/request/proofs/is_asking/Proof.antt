@@ -1,6 +1,6 @@
 -- `request::is_asking` meets its contract: a row of no length has MemInit 0, which every number reaches.
 use Prim.Native.Nat.{ℕ, zero, suc, _+_, _%_}
-use mathlib.Core.Bool.{Bool, true, false, _&&_}
+use mathlib.Core.Bool.{Bool, true, false}
 use mathlib.Core.Path.{_≡_, refl, sym}
 use lib.Dec.{leb·zero}
 use native.Mathlib.Omega.{arith}

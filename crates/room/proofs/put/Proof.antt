@@ -1,6 +1,6 @@
 -- `room::put` meets its contract: one byte more at each turn.
-use Prim.Native.Nat.{ℕ, _+_, _*_, _%_, _≤_, _<_, _-_}
-use mathlib.Core.Path.{_≡_, refl, sym, _∙_, ap}
+use Prim.Native.Nat.{_≤_, _-_}
+use mathlib.Core.Path.{_≡_, refl, _∙_, ap}
 use lib.ListN.{length, getD}
 use Rattle.room.specs.Room.{laid}
 use Rattle.room.proofs.Laying.{laid-none, laid-next, laid-length, put-past, put-short, put-whole}

@@ -1,6 +1,6 @@
 -- `rows::put_row` meets its contract: each turn puts one of the texts that are left.
 use Prim.Native.Nat.{_≤_, _-_}
-use mathlib.Core.Path.{_≡_, refl, sym, ap, _∙_}
+use mathlib.Core.Path.{_≡_, refl}
 use lib.ListN.{length, drop}
 use Rattle.room.specs.Room.{putTexts, putEnds}
 use Rattle.rows.specs.Rows.{rowTexts}

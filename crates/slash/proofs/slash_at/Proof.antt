@@ -1,6 +1,6 @@
 -- `slash::slash_at` meets its contract: the first `/` from the place reached on is the first of all.
-use Prim.Native.Nat.{ℕ, _+_, _≤_, _<_, _-_}
-use mathlib.Core.Path.{_≡_, refl, sym, _∙_, ap}
+use Prim.Native.Nat.{_≤_, _-_}
+use mathlib.Core.Path.{_≡_, sym, _∙_}
 use lib.ListN.{length}
 use Rattle.slash.specs.Slash.{slashFrom, slashAt}
 use Rattle.slash.proofs.Cases.{slash-here, slash-first, slash-on, slash-end}

@@ -1,5 +1,4 @@
 -- `stand::place_of` meets its contract: a row number of 32 bits, and rows of at most 2^26 ticks.
-use mathlib.Core.Path.{refl}
 use native.Mathlib.Nat.{div-le-self}
 use native.Mathlib.Omega.{arith}
 use borrow.Author.Needs.{needs}

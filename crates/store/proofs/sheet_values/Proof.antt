@@ -1,5 +1,5 @@
 -- `store::sheet_values` meets its contract: one number more at each turn.
-use Prim.Native.Nat.{ℕ, _+_, _≤_, _<_, _-_}
+use Prim.Native.Nat.{_+_, _≤_, _-_}
 use mathlib.Core.Path.{_≡_, refl}
 use native.Mathlib.Nat.{zero-add}
 use lib.ListN.{getD, replicate}

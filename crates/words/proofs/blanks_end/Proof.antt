@@ -1,8 +1,8 @@
 -- `words::blanks_end` meets its contract: past each blank, the same is left past the blanks in front.
-use Prim.Native.Nat.{ℕ, _+_, _≤_, _<_, _-_}
+use Prim.Native.Nat.{_≤_, _-_}
 use mathlib.Core.Path.{_≡_, sym, _∙_}
 use lib.ListN.{length, drop}
-use Rattle.words.specs.Words.{skip, past}
+use Rattle.words.specs.Words.{skip}
 use Rattle.words.proofs.Parting.{skip-blank, skip-stop, skip-end}
 use native.Mathlib.Omega.{arith}
 use borrow.Author.Needs.{needs}

@@ -1,6 +1,6 @@
 -- `words::count_words` meets its contract: the words counted and those that begin in what is left make all.
-use Prim.Native.Nat.{ℕ, _+_, _≤_, _<_, _-_}
-use mathlib.Core.Path.{_≡_, sym, _∙_}
+use Prim.Native.Nat.{_+_, _≤_, _-_}
+use mathlib.Core.Path.{_≡_}
 use mathlib.Core.Bool.{false, _||_}
 use lib.ListN.{length, drop}
 use Rattle.words.specs.Words.{begins}

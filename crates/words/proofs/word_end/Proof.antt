@@ -1,8 +1,8 @@
 -- `words::word_end` meets its contract: past each byte of the word, the same is left past the word.
-use Prim.Native.Nat.{ℕ, _+_, _≤_, _<_, _-_}
+use Prim.Native.Nat.{_≤_, _-_}
 use mathlib.Core.Path.{_≡_, sym, _∙_}
 use lib.ListN.{length, drop}
-use Rattle.words.specs.Words.{skip, past}
+use Rattle.words.specs.Words.{past}
 use Rattle.words.proofs.Parting.{past-more, past-stop, past-end}
 use native.Mathlib.Omega.{arith}
 use borrow.Author.Needs.{needs}
