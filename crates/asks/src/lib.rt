@@ -33,10 +33,10 @@ fn rows(p: Page, out: &mut [u8], bytes: &[u8]) -> Page {
 }
 
 // Bytes that were asked for, or a refusal.
-pub fn shown(p: Page, out: &mut [u8], line: u64, refusal: u32, bytes: &[u8]) -> Page
+pub fn shown(p: Page, out: &mut [u8], refusal: u32, bytes: &[u8]) -> Page
     ensures room { λ _. ⌜ length (now (out .exit)) ≡ length (now (out .entry)) ⌝ }
 {
-    let told = report::verdict(p, out, line, refusal);
+    let told = report::verdict(p, out, refusal);
     if is_brief(p, refusal) {
         return told;
     }
@@ -44,11 +44,11 @@ pub fn shown(p: Page, out: &mut [u8], line: u64, refusal: u32, bytes: &[u8]) -> 
 }
 
 // `read ADDRESS`.
-fn read(p: Page, m: Machine, out: &mut [u8], address: u32) -> Finding
+fn read(at: usize, m: Machine, out: &mut [u8], address: u32) -> Finding
     requires { ⌜ Sound (m .regs) (m .generator) ⌝ }
 {
     let answer = m.read(address);
-    let value = text::put_hex(out, p.waiting, answer.value);
+    let value = text::put_hex(out, at, answer.value);
     let end = room::put(out, value, b"\n");
     Finding {
         refusal: answer.refusal,
@@ -57,12 +57,12 @@ fn read(p: Page, m: Machine, out: &mut [u8], address: u32) -> Finding
 }
 
 // `nine`.
-fn nine(p: Page, m: Machine, out: &mut [u8]) -> Finding
+fn nine(at: usize, m: Machine, out: &mut [u8]) -> Finding
     requires { ⌜ Sound (m .regs) (m .generator) ⌝ }
 {
     let sums = nine::nine(m);
     let words = sums.words;
-    let low = text::put_hex(out, p.waiting, words[0]);
+    let low = text::put_hex(out, at, words[0]);
     let middle = phrases::put_colour(out, low, words[1]);
     let high = phrases::put_colour(out, middle, words[2]);
     let end = room::put(out, high, b"\n");
@@ -73,10 +73,10 @@ fn nine(p: Page, m: Machine, out: &mut [u8]) -> Finding
 }
 
 // `sheet BYTE...`.
-fn sheet(p: Page, c: Command, out: &mut [u8]) -> Finding {
+fn sheet(at: usize, c: Command, out: &mut [u8]) -> Finding {
     let sheet = answers::sheet_of(c);
     let values = sheet.values;
-    let ok = room::put(out, p.waiting, b"ok");
+    let ok = room::put(out, at, b"ok");
     let end = rows::put_values(out, ok, &values);
     Finding {
         refusal: sheet.refusal,
@@ -85,9 +85,9 @@ fn sheet(p: Page, c: Command, out: &mut [u8]) -> Finding {
 }
 
 // `field TAG BYTE...`.
-fn field(p: Page, c: Command, out: &mut [u8]) -> Finding {
+fn field(at: usize, c: Command, out: &mut [u8]) -> Finding {
     let answer = answers::field_of(c);
-    let end = text::put_count(out, p.waiting, b"", answer.value as u64);
+    let end = text::put_count(out, at, b"", answer.value as u64);
     Finding {
         refusal: answer.refusal,
         end,
@@ -95,9 +95,9 @@ fn field(p: Page, c: Command, out: &mut [u8]) -> Finding {
 }
 
 // `compare BYTE... / BYTE...`.
-fn compare(p: Page, c: Command, out: &mut [u8]) -> Finding {
+fn compare(at: usize, c: Command, out: &mut [u8]) -> Finding {
     let comparison = answers::comparison_of(c);
-    let end = room::put_either(out, p.waiting, comparison.equal, b"same\n", b"different\n");
+    let end = room::put_either(out, at, comparison.equal, b"same\n", b"different\n");
     Finding {
         refusal: comparison.refusal,
         end,
@@ -105,45 +105,45 @@ fn compare(p: Page, c: Command, out: &mut [u8]) -> Finding {
 }
 
 // `store ROOM VALUE x14`.
-fn store(p: Page, c: Command, out: &mut [u8], line: u64) -> Page {
+fn store(p: Page, c: Command, out: &mut [u8]) -> Page {
     let stored = store::stored_of(c);
     let bytes = stored.bytes;
     let room = stored.room;
-    shown(p, out, line, stored.refusal, parts::lent(&bytes, room))
+    shown(p, out, stored.refusal, parts::lent(&bytes, room))
 }
 
 // A command that finds something out.
-fn found(p: Page, c: Command, m: Machine, out: &mut [u8]) -> Finding
+fn found(at: usize, c: Command, m: Machine, out: &mut [u8]) -> Finding
     requires { ⌜ Sound (m .regs) (m .generator) ⌝ }
 {
     let left = c.left;
     let values = left.values;
     if c.name == names::READ {
-        return read(p, m, out, values[0]);
+        return read(at, m, out, values[0]);
     }
     if c.name == names::NINE {
-        return nine(p, m, out);
+        return nine(at, m, out);
     }
     if c.name == names::SHEET {
-        return sheet(p, c, out);
+        return sheet(at, c, out);
     }
     if c.name == names::FIELD {
-        return field(p, c, out);
+        return field(at, c, out);
     }
-    compare(p, c, out)
+    compare(at, c, out)
 }
 
 // A command that only asks.
-pub fn asked(p: Page, c: Command, m: Machine, out: &mut [u8], line: u64) -> Page
+pub fn asked(p: Page, c: Command, m: Machine, out: &mut [u8]) -> Page
     requires { ⌜ Sound (m .regs) (m .generator) ⌝ }
     ensures room { λ _. ⌜ length (now (out .exit)) ≡ length (now (out .entry)) ⌝ }
 {
     if c.name == names::STORE {
-        return store(p, c, out, line);
+        return store(p, c, out);
     }
-    let answer = found(p, c, m, out);
+    let answer = found(p.waiting, c, m, out);
     if is_brief(p, answer.refusal) {
-        return report::verdict(p, out, line, answer.refusal);
+        return report::verdict(p, out, answer.refusal);
     }
     report::turn(p, answer.end)
 }

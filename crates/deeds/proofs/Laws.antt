@@ -83,7 +83,3 @@ module _ (c : Command) (m : Machine) (lent : ℕ) (memory picture : List ℕ) wh
     -- ticks that are run another way
     pub does-tick : k ≡ 2 → (doneOf c m lent memory (length picture) ≡ runDone m lent (take lent memory) (ticksOf c)) × ((memory ≡ keptMemory c memory) × (picture ≡ pictureAfter c m lent memory picture))
     does-tick h = let e = does-run h (ticksOf c) refl _ refl in (sym (e .0), e .1)
-
-pub run-machine : (m : Machine) (lent : ℕ) (bytes : List ℕ) (count : ℕ) → (runDone m lent bytes count .machine ≡ ranOf bytes m count .machine) × (runDone m lent bytes count .memory ≡ lent)
-unfolding runDone
-run-machine m lent bytes count = (refl, refl)

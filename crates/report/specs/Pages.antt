@@ -13,16 +13,28 @@ use Rattle.report.specs.declared.Page.{Page}
 
 -- before a script's first line
 abbrev pub blankPage : ℕ → Page
-blankPage form = record { form = form; waiting = 0; ticks = 0; last = silent; width = 0; height = 0 }
+blankPage form = record { form = form; lines = 0; waiting = 0; ticks = 0; last = silent; width = 0; height = 0 }
 
 -- a page on which other bytes wait
 abbrev pub turned : Page → ℕ → Page
-turned p waiting = record { form = p .form; waiting = waiting; ticks = p .ticks; last = p .last; width = p .width; height = p .height }
+turned p waiting = record { form = p .form; lines = p .lines; waiting = waiting; ticks = p .ticks; last = p .last; width = p .width; height = p .height }
+
+-- what waits once there is room for a line more
+abbrev pub spaced : Page → ℕ
+spaced p = cond (ltb (p .waiting) 32768) (p .waiting) 0
+
+-- one more, up to the largest number
+abbrev pub oneMore : ℕ → ℕ
+oneMore n = cond (ltb n 0xFFFFFFFFFFFFFFFF) (n + 1) n
+
+-- the page at the next line
+abbrev pub nextLine : Page → Page
+nextLine p = record { form = p .form; lines = oneMore (p .lines); waiting = spaced p; ticks = p .ticks; last = p .last; width = p .width; height = p .height }
 
 -- and after one tick more
 abbrev pub counted : Page → ℕ → Signals → Page
 counted p waiting s =
-    record { form = p .form; waiting = waiting; ticks = cond (ltb (p .ticks) 0xFFFFFFFFFFFFFFFF) (p .ticks + 1) (p .ticks); last = s; width = p .width; height = p .height }
+    record { form = p .form; lines = p .lines; waiting = waiting; ticks = oneMore (p .ticks); last = s; width = p .width; height = p .height }
 
 -- what a command that may be refused says: in answers `ok`, elsewhere nothing unless it is refused
 unfoldable pub verdictTexts : ℕ → ℕ → ℕ → List (List ℕ)

@@ -1,18 +1,18 @@
 // A page: what a session has said so far, and what it says next, by its form.
 ghost use mathlib.Core.Path.{_≡_};
-ghost use mathlib.Core.Bool.{cond};
-ghost use lib.Dec.{ltb};
 ghost use Rattle.room.specs.Room.{putTexts, putEnds};
 ghost use Rattle.says.specs.Notes.{refusedTexts, faultTexts};
-ghost use Rattle.report.specs.Pages.{blankPage, turned, counted, verdictTexts, stepTexts};
+ghost use Rattle.report.specs.Pages.{blankPage, turned, spaced, nextLine, counted, verdictTexts, stepTexts};
 use says::ANSWERS;
 use says::PICTURE;
 use says::WAVE;
 use signals::Signals;
 
-// The form; the bytes that wait to be written; the ticks so far and what the last one put out; the last picture's size, 0 before one.
+// The form; the lines read; the bytes that wait to be written; the ticks so far and what the last one put out; the last picture's size, 0
+// before one.
 pub struct Page {
     pub form: u32,
+    pub lines: u64,
     pub waiting: usize,
     pub ticks: u64,
     pub last: Signals,
@@ -27,6 +27,7 @@ pub fn blank_page(form: u32) -> Page
     let last = signals::silence();
     Page {
         form,
+        lines: 0,
         waiting: 0,
         ticks: 0,
         last,
@@ -51,6 +52,7 @@ fn count(p: Page, waiting: usize, s: Signals) -> Page
     let ticks = input::one_more(p.ticks);
     Page {
         form: p.form,
+        lines: p.lines,
         waiting,
         ticks,
         last: s,
@@ -74,7 +76,7 @@ pub fn write(p: Page, out: &[u8]) -> Page
 
 // Writes what waits where the room for more is short.
 pub fn space(p: Page, out: &[u8]) -> Page
-    ensures page { λ r. ⌜ r ≡ turned p (cond (ltb (p .waiting) 32768) (p .waiting) 0) ⌝ }
+    ensures page { λ r. ⌜ r ≡ turned p (spaced p) ⌝ }
 {
     if p.waiting < 32768 {
         return turn(p, p.waiting);
@@ -82,31 +84,40 @@ pub fn space(p: Page, out: &[u8]) -> Page
     write(p, out)
 }
 
-// A refusal.
-pub fn refuse(p: Page, out: &mut [u8], line: u64, refusal: u32) -> Page
-    ensures page { λ r. ⌜ r ≡ turned p (putEnds (now (out .entry)) (p .waiting) (refusedTexts (p .form) line refusal)) ⌝ }
-    ensures bytes { λ _. ⌜ now (out .exit) ≡ putTexts (now (out .entry)) (p .waiting) (refusedTexts (p .form) line refusal) ⌝ }
+// The page at the next line of the script.
+pub fn next_line(p: Page, out: &[u8]) -> Page
+    ensures page { λ r. ⌜ r ≡ nextLine p ⌝ }
 {
-    let end = says::notes::put_refused(out, p.waiting, p.form, line, refusal);
+    let mut page = space(p, out);
+    page.lines = input::one_more(p.lines);
+    page
+}
+
+// A refusal.
+pub fn refuse(p: Page, out: &mut [u8], refusal: u32) -> Page
+    ensures page { λ r. ⌜ r ≡ turned p (putEnds (now (out .entry)) (p .waiting) (refusedTexts (p .form) (p .lines) refusal)) ⌝ }
+    ensures bytes { λ _. ⌜ now (out .exit) ≡ putTexts (now (out .entry)) (p .waiting) (refusedTexts (p .form) (p .lines) refusal) ⌝ }
+{
+    let end = says::notes::put_refused(out, p.waiting, p.form, p.lines, refusal);
     turn(p, end)
 }
 
 // A fault of a line.
-pub fn fault(p: Page, out: &mut [u8], line: u64, fault: u32) -> Page
-    ensures page { λ r. ⌜ r ≡ turned p (putEnds (now (out .entry)) (p .waiting) (faultTexts (p .form) line fault)) ⌝ }
-    ensures bytes { λ _. ⌜ now (out .exit) ≡ putTexts (now (out .entry)) (p .waiting) (faultTexts (p .form) line fault) ⌝ }
+pub fn fault(p: Page, out: &mut [u8], fault: u32) -> Page
+    ensures page { λ r. ⌜ r ≡ turned p (putEnds (now (out .entry)) (p .waiting) (faultTexts (p .form) (p .lines) fault)) ⌝ }
+    ensures bytes { λ _. ⌜ now (out .exit) ≡ putTexts (now (out .entry)) (p .waiting) (faultTexts (p .form) (p .lines) fault) ⌝ }
 {
-    let end = says::notes::put_fault(out, p.waiting, p.form, line, fault);
+    let end = says::notes::put_fault(out, p.waiting, p.form, p.lines, fault);
     turn(p, end)
 }
 
 // A command that answers nothing but `ok`, or a refusal.
-pub fn verdict(p: Page, out: &mut [u8], line: u64, refusal: u32) -> Page
-    ensures page { λ r. ⌜ r ≡ turned p (putEnds (now (out .entry)) (p .waiting) (verdictTexts (p .form) line refusal)) ⌝ }
-    ensures bytes { λ _. ⌜ now (out .exit) ≡ putTexts (now (out .entry)) (p .waiting) (verdictTexts (p .form) line refusal) ⌝ }
+pub fn verdict(p: Page, out: &mut [u8], refusal: u32) -> Page
+    ensures page { λ r. ⌜ r ≡ turned p (putEnds (now (out .entry)) (p .waiting) (verdictTexts (p .form) (p .lines) refusal)) ⌝ }
+    ensures bytes { λ _. ⌜ now (out .exit) ≡ putTexts (now (out .entry)) (p .waiting) (verdictTexts (p .form) (p .lines) refusal) ⌝ }
 {
     if refusal != 0 {
-        return refuse(p, out, line, refusal);
+        return refuse(p, out, refusal);
     }
     if p.form == ANSWERS {
         let end = room::put(out, p.waiting, b"ok\n");

@@ -1,10 +1,9 @@
--- What a line of a script does (console.md), in every form. m: the machine, lent: how many bytes of `memory` are lent, room: how many bytes a
--- picture has room for. Assumes nothing.
+-- What a line of a script does (console.md), in every form. d: what the last command has done, with the machine and how many bytes of `memory`
+-- are lent; room: how many bytes a picture has room for. Assumes nothing.
 use Prim.Native.Nat.{ℕ}
 use mathlib.Core.Bool.{Bool, not, cond, _||_}
 use mathlib.Core.List.{List}
 use lib.Dec.{eqb}
-use Rattle.machine.specs.declared.Machine.{Machine}
 use Rattle.script.specs.Script.{skipped, lineCommand}
 use Rattle.keep.specs.Keep.{keptMemory}
 use Rattle.deeds.specs.declared.Done.{Done}
@@ -14,13 +13,12 @@ use Rattle.deeds.specs.Deeds.{doneOf, pictureAfter}
 abbrev pub idle : List ℕ → ℕ → Bool
 idle line lent = skipped line || not (eqb (lineCommand line lent .fault) 0)
 
--- WHAT A LINE DOES: what its command does, and an idle one nothing
-abbrev pub lineDone : List ℕ → Machine → ℕ → List ℕ → ℕ → Done
-lineDone line m lent memory room =
-    cond (idle line lent) (record { refusal = 0; ticks = 0; memory = lent; machine = m }) (doneOf (lineCommand line lent) m lent memory room)
+-- WHAT A LINE DOES: what its command does, and an idle one nothing: what was done before it stands
+abbrev pub lineDone : List ℕ → Done → List ℕ → ℕ → Done
+lineDone line d memory room = cond (idle line (d .memory)) d (doneOf (lineCommand line (d .memory)) (d .machine) (d .memory) memory room)
 
-abbrev pub lineMemory : List ℕ → ℕ → List ℕ → List ℕ
-lineMemory line lent memory = cond (idle line lent) memory (keptMemory (lineCommand line lent) memory)
+abbrev pub lineMemory : List ℕ → Done → List ℕ → List ℕ
+lineMemory line d memory = cond (idle line (d .memory)) memory (keptMemory (lineCommand line (d .memory)) memory)
 
-abbrev pub linePicture : List ℕ → Machine → ℕ → List ℕ → List ℕ → List ℕ
-linePicture line m lent memory picture = cond (idle line lent) picture (pictureAfter (lineCommand line lent) m lent memory picture)
+abbrev pub linePicture : List ℕ → Done → List ℕ → List ℕ → List ℕ
+linePicture line d memory picture = cond (idle line (d .memory)) picture (pictureAfter (lineCommand line (d .memory)) (d .machine) (d .memory) memory picture)

@@ -1,12 +1,10 @@
 // A session over a script (console.md), in one of three forms: answers, a waveform of the ticks, or the last picture.
 ghost use Prim.Native.Nat.{_≤_};
 ghost use mathlib.Core.Path.{_≡_};
-ghost use lib.ListN.{length, take};
+ghost use lib.ListN.{length};
 ghost use Rattle.counters.specs.Sound.{Sound};
-ghost use Rattle.acts.specs.Machines.{ranOf};
 ghost use Rattle.keep.specs.Keep.{keptMemory};
-ghost use Rattle.script.specs.Script.{ticksOf};
-ghost use Rattle.deeds.specs.Deeds.{doneOf, pictureAfter};
+ghost use Rattle.deeds.specs.Deeds.{runDone, doneOf, pictureAfter};
 ghost use Rattle.session.specs.Lines.{lineDone, lineMemory, linePicture};
 use command::Command;
 use deeds::Done;
@@ -16,17 +14,9 @@ use says::ANSWERS;
 use says::PICTURE;
 use says::WAVE;
 
-// The machine, the bytes of memory lent, the lines read, and what has been said.
+// What the last command has done, the machine and the memory lent with it; and what has been said.
 struct Desk {
-    machine: Machine,
-    memory: u32,
-    lines: u64,
-    page: Page,
-}
-
-// What ticks that were shown leave.
-struct Shown {
-    machine: Machine,
+    done: Done,
     page: Page,
 }
 
@@ -54,68 +44,59 @@ fn picture_room() -> [u8; PICTURE_BYTES] {
 }
 
 // One tick's signals, or its refusal.
-fn told(p: Page, out: &mut [u8; ROOM], line: u64, refusal: u32, s: signals::Signals) -> Page {
+fn told(p: Page, out: &mut [u8; ROOM], refusal: u32, s: signals::Signals) -> Page {
     let page = report::space(p, out);
     if refusal == 0 {
         return report::tick(page, out, s);
     }
-    report::refuse(page, out, line, refusal)
+    report::refuse(page, out, refusal)
 }
 
 // Ticks that are shown, each as the form shows it; they end where one is refused.
-fn ticks(m: Machine, p: Page, memory: &[u8], out: &mut [u8; ROOM], line: u64, count: u32) -> Shown
-    requires { ⌜ Sound (m .regs) (m .generator) ⌝ }
-    ensures machine { λ r. ⌜ r .machine ≡ ranOf (now (memory .entry)) m count .machine ⌝ }
-    ensures sound { λ r. ⌜ Sound (r .machine .regs) (r .machine .generator) ⌝ }
+fn ticks(d: Desk, memory: &[u8], out: &mut [u8; ROOM], count: u32) -> Desk
+    requires { ⌜ Sound (d .done .machine .regs) (d .done .machine .generator) ⌝ }
+    ensures done { λ r. ⌜ r .done ≡ runDone (d .done .machine) (d .done .memory) (now (memory .entry)) count ⌝ }
+    ensures sound { λ r. ⌜ Sound (r .done .machine .regs) (r .done .machine .generator) ⌝ }
 {
-    let mut machine = m;
-    let mut page = p;
-    let mut done: u32 = 0;
-    while done < count {
+    let before = d.done;
+    let mut machine = before.machine;
+    let mut page = d.page;
+    let mut ticks: u32 = 0;
+    while ticks < count {
         let next = acts::tick(machine, memory);
         let refusal = next.refusal;
         let signals = next.signals;
         machine = next.machine;
-        page = told(page, out, line, refusal, signals);
+        page = told(page, out, refusal, signals);
         if refusal != 0 {
-            return Shown { machine, page };
+            let done = Done {
+                refusal,
+                ticks,
+                memory: before.memory,
+                machine,
+            };
+            return Desk { done, page };
         }
-        done += 1;
+        ticks += 1;
     }
-    Shown { machine, page }
+    let done = Done {
+        refusal: 0,
+        ticks,
+        memory: before.memory,
+        machine,
+    };
+    Desk { done, page }
 }
 
 // What a run that is not shown says: in answers how many ticks it has done. Its line is kept only there.
-fn ran(p: Page, out: &mut [u8; ROOM], line: u64, done: u32, refusal: u32) -> Page {
+fn ran(p: Page, out: &mut [u8; ROOM], done: u32, refusal: u32) -> Page {
     let end = text::put_count(out, p.waiting, b"ran ", done as u64);
     let waiting = base::choose(p.form == ANSWERS, end as u64, p.waiting as u64);
     let page = report::turn(p, waiting as usize);
     if refusal == 0 {
         return page;
     }
-    report::refuse(page, out, line, refusal)
-}
-
-// `tick` or `run`, its ticks shown.
-fn timed(d: Desk, c: Command, memory: &[u8; MEMORY], out: &mut [u8; ROOM]) -> Desk
-    requires { ⌜ Sound (d .machine .regs) (d .machine .generator) ⌝ }
-    ensures machine { λ r. ⌜ r .machine ≡ ranOf (take (d .memory) (now (memory .entry))) (d .machine) (ticksOf c) .machine ⌝ }
-    ensures lent { λ r. ⌜ r .memory ≡ d .memory ⌝ }
-    ensures sound { λ r. ⌜ Sound (r .machine .regs) (r .machine .generator) ⌝ }
-{
-    let m = d.machine;
-    let before = d.page;
-    let count = script::ticks_of(c);
-    let lent = parts::lent(memory, d.memory as usize);
-    let shown = ticks(m, before, lent, out, d.lines, count);
-    let machine = shown.machine;
-    let page = shown.page;
-    Desk {
-        machine,
-        memory: d.memory,
-        lines: d.lines,
-        page,
-    }
+    report::refuse(page, out, refusal)
 }
 
 // `picture LENGTH`: the size of a picture that was drawn is kept.
@@ -124,7 +105,6 @@ fn pictured(
     m: Machine,
     picture: &[u8; PICTURE_BYTES],
     out: &mut [u8; ROOM],
-    line: u64,
     refusal: u32,
     length: u32,
 ) -> Page {
@@ -133,30 +113,34 @@ fn pictured(
     kept.width = base::choose(refusal == 0, size.width, kept.width);
     kept.height = base::choose(refusal == 0, size.height, kept.height);
     let bytes = parts::lent(picture, length as usize);
-    asks::shown(kept, out, line, refusal, bytes)
+    asks::shown(kept, out, refusal, bytes)
 }
 
-// What a command that has done something says.
+// What a command that has done something, or has only asked, says.
 fn said(
     p: Page,
     c: Command,
     done: Done,
     picture: &[u8; PICTURE_BYTES],
     out: &mut [u8; ROOM],
-    line: u64,
-) -> Page {
+) -> Page
+    requires { ⌜ Sound (done .machine .regs) (done .machine .generator) ⌝ }
+{
     let kind = names::kind_of(c.name);
     let refusal = done.refusal;
     if kind == 2 {
-        return ran(p, out, line, done.ticks, refusal);
+        return ran(p, out, done.ticks, refusal);
     }
+    let machine = done.machine;
     if kind == 3 {
-        let machine = done.machine;
         let left = c.left;
         let values = left.values;
-        return pictured(p, machine, picture, out, line, refusal, values[0]);
+        return pictured(p, machine, picture, out, refusal, values[0]);
     }
-    report::verdict(p, out, line, refusal)
+    if kind == 4 {
+        return asks::asked(p, c, machine, out);
+    }
+    report::verdict(p, out, refusal)
 }
 
 // A waveform shows the ticks of `tick` and of `run`, answers those of `tick`, a picture none.
@@ -172,58 +156,24 @@ fn acted(
     picture: &mut [u8; PICTURE_BYTES],
     out: &mut [u8; ROOM],
 ) -> Desk
-    requires { ⌜ Sound (d .machine .regs) (d .machine .generator) ⌝ }
-    ensures machine { λ r. ⌜ r .machine ≡ doneOf c (d .machine) (d .memory) (now (memory .entry)) (length (now (picture .entry))) .machine ⌝ }
-    ensures lent { λ r. ⌜ r .memory ≡ doneOf c (d .machine) (d .memory) (now (memory .entry)) (length (now (picture .entry))) .memory ⌝ }
+    requires { ⌜ Sound (d .done .machine .regs) (d .done .machine .generator) ⌝ }
+    ensures done { λ r. ⌜ r .done ≡ doneOf c (d .done .machine) (d .done .memory) (now (memory .entry)) (length (now (picture .entry))) ⌝ }
     ensures memory { λ _. ⌜ now (memory .exit) ≡ keptMemory c (now (memory .entry)) ⌝ }
-    ensures picture { λ _. ⌜ now (picture .exit) ≡ pictureAfter c (d .machine) (d .memory) (now (memory .entry)) (now (picture .entry)) ⌝ }
-    ensures sound { λ r. ⌜ Sound (r .machine .regs) (r .machine .generator) ⌝ }
+    ensures picture { λ _. ⌜ now (picture .exit) ≡ pictureAfter c (d .done .machine) (d .done .memory) (now (memory .entry)) (now (picture .entry)) ⌝ }
+    ensures sound { λ r. ⌜ Sound (r .done .machine .regs) (r .done .machine .generator) ⌝ }
 {
-    let m = d.machine;
-    let before = d.page;
+    let before = d.done;
+    let p = d.page;
     let kind = names::kind_of(c.name);
-    let shown = base::first(is_shown(before.form, c.name), kind, 0);
+    let shown = base::first(is_shown(p.form, c.name), kind, 0);
     if shown == 2 {
-        return timed(d, c, memory, out);
+        let lent = parts::lent(memory, before.memory as usize);
+        return ticks(d, lent, out, script::ticks_of(c));
     }
-    let done = deeds::act(c, m, d.memory, memory, picture);
-    let machine = done.machine;
-    let lent = done.memory;
-    if kind == 4 {
-        let page = asks::asked(before, c, machine, out, d.lines);
-        return Desk {
-            machine,
-            memory: lent,
-            lines: d.lines,
-            page,
-        };
-    }
-    let page = said(before, c, done, picture, out, d.lines);
-    Desk {
-        machine,
-        memory: lent,
-        lines: d.lines,
-        page,
-    }
-}
-
-// The desk at the next line.
-fn next_line(d: Desk, out: &[u8; ROOM]) -> Desk
-    requires { ⌜ Sound (d .machine .regs) (d .machine .generator) ⌝ }
-    ensures machine { λ r. ⌜ r .machine ≡ d .machine ⌝ }
-    ensures lent { λ r. ⌜ r .memory ≡ d .memory ⌝ }
-    ensures sound { λ r. ⌜ Sound (r .machine .regs) (r .machine .generator) ⌝ }
-{
-    let machine = d.machine;
-    let before = d.page;
-    let page = report::space(before, out);
-    let lines = input::one_more(d.lines);
-    Desk {
-        machine,
-        memory: d.memory,
-        lines,
-        page,
-    }
+    let machine = before.machine;
+    let done = deeds::act(c, machine, before.memory, memory, picture);
+    let page = said(p, c, done, picture, out);
+    Desk { done, page }
 }
 
 // A whole line of the script.
@@ -234,30 +184,24 @@ fn answered(
     picture: &mut [u8; PICTURE_BYTES],
     out: &mut [u8; ROOM],
 ) -> Desk
-    requires { ⌜ Sound (d .machine .regs) (d .machine .generator) ⌝ }
-    ensures machine { λ r. ⌜ r .machine ≡ lineDone (now (line .entry)) (d .machine) (d .memory) (now (memory .entry)) (length (now (picture .entry))) .machine ⌝ }
-    ensures lent { λ r. ⌜ r .memory ≡ lineDone (now (line .entry)) (d .machine) (d .memory) (now (memory .entry)) (length (now (picture .entry))) .memory ⌝ }
-    ensures memory { λ _. ⌜ now (memory .exit) ≡ lineMemory (now (line .entry)) (d .memory) (now (memory .entry)) ⌝ }
-    ensures picture { λ _. ⌜ now (picture .exit) ≡ linePicture (now (line .entry)) (d .machine) (d .memory) (now (memory .entry)) (now (picture .entry)) ⌝ }
-    ensures sound { λ r. ⌜ Sound (r .machine .regs) (r .machine .generator) ⌝ }
+    requires { ⌜ Sound (d .done .machine .regs) (d .done .machine .generator) ⌝ }
+    ensures done { λ r. ⌜ r .done ≡ lineDone (now (line .entry)) (d .done) (now (memory .entry)) (length (now (picture .entry))) ⌝ }
+    ensures memory { λ _. ⌜ now (memory .exit) ≡ lineMemory (now (line .entry)) (d .done) (now (memory .entry)) ⌝ }
+    ensures picture { λ _. ⌜ now (picture .exit) ≡ linePicture (now (line .entry)) (d .done) (now (memory .entry)) (now (picture .entry)) ⌝ }
+    ensures sound { λ r. ⌜ Sound (r .done .machine .regs) (r .done .machine .generator) ⌝ }
 {
-    let next = next_line(d, out);
+    let done = d.done;
+    let before = d.page;
+    let page = report::next_line(before, out);
     if script::is_skipped(line) {
-        return next;
+        return Desk { done, page };
     }
-    let c = script::line_command(line, next.memory);
+    let c = script::line_command(line, done.memory);
     if c.fault == 0 {
-        return acted(next, c, memory, picture, out);
+        return acted(Desk { done, page }, c, memory, picture, out);
     }
-    let machine = next.machine;
-    let before = next.page;
-    let page = report::fault(before, out, next.lines, c.fault);
-    Desk {
-        machine,
-        memory: next.memory,
-        lines: next.lines,
-        page,
-    }
+    let told = report::fault(page, out, c.fault);
+    Desk { done, page: told }
 }
 
 // The lines that end in a piece of the script; what is left stands in `line`.
@@ -270,8 +214,8 @@ fn pieced(
     picture: &mut [u8; PICTURE_BYTES],
     out: &mut [u8; ROOM],
 ) -> Left
-    requires { ⌜ Sound (d .machine .regs) (d .machine .generator) ⌝ }
-    ensures sound { λ r. ⌜ Sound (r .desk .machine .regs) (r .desk .machine .generator) ⌝ }
+    requires { ⌜ Sound (d .done .machine .regs) (d .done .machine .generator) ⌝ }
+    ensures sound { λ r. ⌜ Sound (r .desk .done .machine .regs) (r .desk .done .machine .generator) ⌝ }
 {
     let mut desk = d;
     let mut count = held;
@@ -302,7 +246,7 @@ fn finished(
     picture: &mut [u8; PICTURE_BYTES],
     out: &mut [u8; ROOM],
 ) -> Page
-    requires { ⌜ Sound (left .desk .machine .regs) (left .desk .machine .generator) ⌝ }
+    requires { ⌜ Sound (left .desk .done .machine .regs) (left .desk .done .machine .generator) ⌝ }
 {
     let desk = left.desk;
     let held = left.held;
@@ -351,12 +295,13 @@ fn course(
 ) -> Page {
     let mut line = [0u8; LINE];
     let machine = acts::begun();
-    let desk = Desk {
-        machine,
+    let done = Done {
+        refusal: 0,
+        ticks: 0,
         memory: 0,
-        lines: 0,
-        page: p,
+        machine,
     };
+    let desk = Desk { done, page: p };
     let mut left = Left { desk, held: 0 };
     let mut turns = u64::MAX;
     while 0 < turns {

@@ -10,14 +10,14 @@ use Rattle.report.proofs.verdict.Tie as tie
 returns : tie.Need-returns
 returns c =
     let a = c .before .before .before .before .before .before .args in
-    let e = verdict-refused (a .p .form) (a .line) (a .refusal) (c .before .before .before .before .if1 .taken) in
+    let e = verdict-refused (a .p .form) (a .p .lines) (a .refusal) (c .before .before .before .before .if1 .taken) in
     let q = c .before .before .refuse .ensures in
     (rw e (q .0), rw e (q .1))
 
 returns-2 : tie.Need-returns-2
 returns-2 c =
     let a = c .before .before .before .before .before .before .before .before .before .before .args in
-    let e = verdict-good (a .p .form) (a .line) (a .refusal) (c .before .before .before .before .before .before .before .before .if1 .left) (c .before .before .before .before .before .before .if2 .taken) in
+    let e = verdict-good (a .p .form) (a .p .lines) (a .refusal) (c .before .before .before .before .before .before .before .before .if1 .left) (c .before .before .before .before .before .before .if2 .taken) in
     let q = c .before .before .before .put .ensures in
     let puts = put-one _ _ _ _ _ (q .0) (q .1 .0) in
     (c .turn .ensures ∙ ap (turned (a .p)) (rw e (puts .place)), rw e (puts .bytes))
@@ -25,7 +25,7 @@ returns-2 c =
 returns-3 : tie.Need-returns-3
 returns-3 c =
     let a = c .before .before .before .before .before .args in
-    let e = verdict-none (a .p .form) (a .line) (a .refusal) (c .before .before .before .if1 .left) (c .before .if2 .left) in
+    let e = verdict-none (a .p .form) (a .p .lines) (a .refusal) (c .before .before .before .if1 .left) (c .before .if2 .left) in
     let q = none-put (a .out .now) (a .p .waiting) in
     (c .turn2 .ensures ∙ ap (turned (a .p)) (rw e (q .0)), rw e (q .1))
 

@@ -15,7 +15,7 @@ fewer true turns next h e = omega arith
 fewer false turns next h e = omega arith
 
 abbrev Inv-loop : tie.InvT-loop
-Inv-loop memory₀ picture₀ out₀ line₀ left₀ turns₀ memory picture out line left turns = Sound (left .desk .machine .regs) (left .desk .machine .generator)
+Inv-loop memory₀ picture₀ out₀ line₀ left₀ turns₀ memory picture out line left turns = Sound (left .desk .done .machine .regs) (left .desk .done .machine .generator)
 
 abbrev μ-loop : tie.MeasureT-loop
 μ-loop memory₀ picture₀ out₀ line₀ left₀ turns₀ memory picture out line left turns = turns

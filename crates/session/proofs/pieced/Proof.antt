@@ -7,7 +7,7 @@ use Rattle.session.proofs.pieced.Statement.{statement}
 use Rattle.session.proofs.pieced.Tie as tie
 
 abbrev Inv-loop : tie.InvT-loop
-Inv-loop piece held line₀ memory₀ picture₀ out₀ desk₀ count₀ at₀ line memory picture out desk count at = Sound (desk .machine .regs) (desk .machine .generator)
+Inv-loop piece held line₀ memory₀ picture₀ out₀ desk₀ count₀ at₀ line memory picture out desk count at = Sound (desk .done .machine .regs) (desk .done .machine .generator)
 
 abbrev μ-loop : tie.MeasureT-loop
 μ-loop piece held line₀ memory₀ picture₀ out₀ desk₀ count₀ at₀ line memory picture out desk count at = length piece - at
