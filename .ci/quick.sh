@@ -1,7 +1,15 @@
-# Sourced: each check copies all that it stands on into a temporary folder, and where memory has room for that the folder goes there.
+# Sourced by the gate and by `run`: two things that make a check quicker where they may be had, put back when the shell that sources it ends.
+# Each check copies all that it stands on into a temporary folder: where memory has room for that the folder goes there.
 quick=$(mktemp -d /dev/shm/gate.XXXXXX 2>/dev/null) || quick=''
+pages=/sys/kernel/mm/transparent_hugepage/enabled
+small=''
+restore() {
+    [ -z "$quick" ] || rm -rf "$quick"
+    [ -z "$small" ] || echo "$small" >"$pages"
+}
+trap restore EXIT
+trap 'exit 1' HUP INT TERM
 if [ -n "$quick" ]; then
-    trap 'rm -rf "$quick"' EXIT
     room=$(df -Pk "$quick" | awk 'NR == 2 { print $4 }')
     free=$(awk '/^MemAvailable:/ { print $2 }' /proc/meminfo 2>/dev/null) || free=0
     # programs are run from there, as another user
@@ -11,3 +19,9 @@ if [ -n "$quick" ]; then
         export TMPDIR
     fi
 fi
+# A check fills half a gigabyte, and the kernel's large pages save a tenth of its time: they are on until the end where that is allowed.
+now=$(sed -n 's/.*\[\(.*\)\].*/\1/p' "$pages" 2>/dev/null) || now=''
+case $now in
+'' | always) ;;
+*) if { echo always >"$pages"; } 2>/dev/null; then small=$now; fi ;;
+esac
