@@ -286,14 +286,10 @@ fn painted(p: Page, picture: &[u8; PICTURE_BYTES], out: &mut [u8; ROOM]) {
     io::write_all(1, parts::lent(picture, size as usize));
 }
 
-// The whole script. A loop has to end, and nothing says that a script does: it counts from a number that no script uses up.
-fn course(
-    p: Page,
-    memory: &mut [u8; MEMORY],
-    picture: &mut [u8; PICTURE_BYTES],
-    out: &mut [u8; ROOM],
-) -> Page {
-    let mut line = [0u8; LINE];
+// Before a script's first line.
+fn begun(p: Page) -> Left
+    ensures sound { λ r. ⌜ Sound (r .desk .done .machine .regs) (r .desk .done .machine .generator) ⌝ }
+{
     let machine = acts::begun();
     let done = Done {
         refusal: 0,
@@ -302,7 +298,18 @@ fn course(
         machine,
     };
     let desk = Desk { done, page: p };
-    let mut left = Left { desk, held: 0 };
+    Left { desk, held: 0 }
+}
+
+// The whole script. A loop has to end, and nothing says that a script does: it counts from a number that no script uses up.
+fn course(
+    p: Page,
+    memory: &mut [u8; MEMORY],
+    picture: &mut [u8; PICTURE_BYTES],
+    out: &mut [u8; ROOM],
+) -> Page {
+    let mut line = [0u8; LINE];
+    let mut left = begun(p);
     let mut turns = u64::MAX;
     while 0 < turns {
         let mut input = io::large_buffer();

@@ -4,7 +4,7 @@ use Rattle.report.proofs.fault.Statement.{statement}
 use Rattle.report.proofs.fault.Tie as tie
 
 returns : tie.Need-returns
-returns c = (rw (c .turn .ensures, c .before .before .before .put-fault .ensures .0), cc)
+returns c = (rw (c .turn .ensures, c .before .before .before .put-fault .ensures .0), c .before .before .before .put-fault .ensures .1)
 
 pub fault-spec : {M : Type 1} → statement M
 fault-spec =

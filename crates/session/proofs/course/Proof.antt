@@ -21,7 +21,7 @@ abbrev μ-loop : tie.MeasureT-loop
 μ-loop memory₀ picture₀ out₀ line₀ left₀ turns₀ memory picture out line left turns = turns
 
 loop-holds : tie.Need-loop-holds Inv-loop μ-loop
-loop-holds c = c .begun .ensures .1
+loop-holds c = c .begun .ensures
 
 loop-less : tie.Need-loop-less Inv-loop μ-loop
 loop-less c = fewer (ltb 0 (c .before .before .before .before .before .before .before .before .count .result)) _ _ (c .before .before .before .before .before .before .before .before .before .before .before .before .before .before .loop-test .taken) (c .choose .ensures)
