@@ -4,24 +4,22 @@ quick=$(mktemp -d /dev/shm/gate.XXXXXX 2>/dev/null) || quick=''
 pages=/sys/kernel/mm/transparent_hugepage/enabled
 small=''
 restore() {
-    [ -z "$quick" ] || rm -rf "$quick"
-    [ -z "$small" ] || echo "$small" >"$pages"
+    [ -z "$small" ] || echo "$small" >"$pages" || :
+    [ -z "$quick" ] || rm -rf "$quick" || :
 }
 trap restore EXIT
-trap 'exit 1' HUP INT TERM
+trap 'exit 1' HUP INT TERM PIPE
 if [ -n "$quick" ]; then
     room=$(df -Pk "$quick" | awk 'NR == 2 { print $4 }')
     free=$(awk '/^MemAvailable:/ { print $2 }' /proc/meminfo 2>/dev/null) || free=0
     # programs are run from there, as another user
     chmod 755 "$quick"
-    if [ "${room:-0}" -gt 4000000 ] && [ "${free:-0}" -gt 8000000 ] && cp /bin/true "$quick/true" && "$quick/true" 2>/dev/null; then
+    if [ "${room:-0}" -gt 4000000 ] && [ "${free:-0}" -gt 8000000 ] && { cp /bin/true "$quick/true" && "$quick/true"; } 2>/dev/null; then
         TMPDIR=$quick
         export TMPDIR
     fi
 fi
-# A check fills half a gigabyte, and the kernel's large pages save a tenth of its time: they are on until the end where that is allowed.
-now=$(sed -n 's/.*\[\(.*\)\].*/\1/p' "$pages" 2>/dev/null) || now=''
-case $now in
-'' | always) ;;
-*) if { echo always >"$pages"; } 2>/dev/null; then small=$now; fi ;;
-esac
+# A check fills half a gigabyte, and the kernel's large pages save some of its time: they are on until the end where that is allowed.
+small=$(sed -n 's/.*\[\(.*\)\].*/\1/p' "$pages" 2>/dev/null) || small=''
+[ "$small" != always ] || small=''
+[ -z "$small" ] || { echo always >"$pages"; } 2>/dev/null || small=''

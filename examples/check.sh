@@ -20,7 +20,8 @@ wrong '1000 0 125\n' 'line 1: level out of range, -10 to 120'
 wrong '1000 -15 0\n' 'line 1: level out of range, -10 to 120'
 wrong '1000 0 12\n250 0\n' 'line 1: level not a step of 5'
 wrong "$(printf '%1001s' 250) 0 0\n" 'line 1: line too long'
-echo "nine wrong sheets: each named, and no script"
+wrong "$(printf '125 0 0\n%1200s' 250) 0 0\n" 'line 2: line too long'
+echo "ten wrong sheets: each named, and no script"
 for patient in "$here"/*.txt; do
     "$here/../run" chart <"$patient" | "$here/../run" bench >"$answers"
     awk -v name="$(basename "$patient" .txt)" '

@@ -25,19 +25,19 @@ pub found-next : (n : Number) (k found next : ℕ) → found ≡ foundUpTo n k �
 unfolding foundUpTo
 found-next n k found next e h = h ∙ rw (e, add-one k)
 
-module _ (chart : Chart) (line : List ℕ) (remark : Bool) (h : remark ≡ silent (wordAt 0 line)) where
-  pub line-remark : remark ≡ true → _≡_ {A = Reading} (record { fault = 0; chart = chart }) (lineRead chart line)
+module _ (chart : Chart) (line : List ℕ) where
+  pub line-long : 1000 < length line → _≡_ {A = Reading} (record { fault = tooLong; chart = chart }) (lineRead chart line)
   unfolding lineRead
-  line-remark e = rw (← h, e)
+  line-long l = rw (lt-ltb 1000 (length line) l)
 
-  module _ (e : remark ≡ false) where
-    pub line-long : 1000 < length line → _≡_ {A = Reading} (record { fault = tooLong; chart = chart }) (lineRead chart line)
+  module _ (l : length line ≤ 1000) (remark : Bool) (h : remark ≡ silent (wordAt 0 line)) where
+    pub line-remark : remark ≡ true → _≡_ {A = Reading} (record { fault = 0; chart = chart }) (lineRead chart line)
     unfolding lineRead
-    line-long l = rw (← h, e, lt-ltb 1000 (length line) l)
+    line-remark e = rw (le-ltb 1000 (length line) l, ← h, e)
 
-    pub line-words : (r : Reading) → length line ≤ 1000 → r ≡ wordsRead chart line → r ≡ lineRead chart line
+    pub line-words : remark ≡ false → (r : Reading) → r ≡ wordsRead chart line → r ≡ lineRead chart line
     unfolding lineRead
-    line-words r l k = rw (← h, e, le-ltb 1000 (length line) l) k
+    line-words e r k = rw (le-ltb 1000 (length line) l, ← h, e) k
 
 -- the first word of a line, and what is left past it
 module _ (line word : List ℕ) (to : ℕ) (first : word ≡ front (skip (drop 0 line))) where

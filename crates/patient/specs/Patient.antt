@@ -36,9 +36,9 @@ wordsRead chart line =
 abbrev pub silent : List ℕ → Bool
 silent word = eqb (length word) 0 || eqb (getD word 0 0) 59
 
--- A LINE READ: a remark leaves the chart as it is, a line of more than 1,000 bytes is too long
+-- A LINE READ: one of more than 1,000 bytes is too long, whatever it holds; a remark leaves the chart as it is
 unfoldable pub lineRead : Chart → List ℕ → Reading
 lineRead chart line =
-    cond (silent (wordAt 0 line))
-    (record { fault = 0; chart = chart })
-    (cond (ltb 1000 (length line)) (record { fault = tooLong; chart = chart }) (wordsRead chart line))
+    cond (ltb 1000 (length line))
+    (record { fault = tooLong; chart = chart })
+    (cond (silent (wordAt 0 line)) (record { fault = 0; chart = chart }) (wordsRead chart line))

@@ -85,19 +85,19 @@ fn is_remark(line: &[u8]) -> bool
     is_silent(&line[from..to])
 }
 
-// A line read into the chart; a remark leaves it as it is.
+// A line read into the chart; a remark leaves it as it is. What was cut off a long line is not known, so that is judged first.
 pub fn read_line(chart: Chart, line: &[u8]) -> Reading
     ensures reading { λ r. ⌜ r ≡ lineRead chart (now (line .entry)) ⌝ }
 {
-    let remark = is_remark(line);
-    if remark {
-        return Reading { fault: 0, chart };
-    }
     if 1000 < line.len() {
         return Reading {
             fault: TOO_LONG,
             chart,
         };
+    }
+    let remark = is_remark(line);
+    if remark {
+        return Reading { fault: 0, chart };
     }
     words_read(chart, line)
 }
