@@ -2,7 +2,7 @@
 use Prim.Native.Nat.{ℕ, _+_, _*_, _/_, _%_}
 use mathlib.Core.Path.{_≡_}
 use mathlib.Core.List.{List}
-use Rattle.entry.specs.Entry.{entryAt}
+use Rattle.audiogram.specs.Entry.{entryAt}
 use Rattle.audiogram.specs.Picture.{byteAt}
 
 -- a byte, of its four pixels' entries

@@ -15,11 +15,11 @@ use Rattle.base.proofs.Some.{some-none, some-at}
 use Rattle.memory.specs.Memory.{pixelAt}
 use Rattle.memory.proofs.Bytes.{pixel-inside}
 use Rattle.marks.specs.Marks.{mark}
-use Rattle.ear.specs.Ear.{measured, columns, pointOf, lastBefore, coveredAt, shows}
-use Rattle.form.specs.Form.{form}
-use Rattle.entry.specs.Entry.{paperEntry, rightEntry, leftEntry, formEntry, entryAt}
+use Rattle.marks.specs.Ear.{measured, columns, pointOf, lastBefore, coveredAt, shows}
+use Rattle.audiogram.specs.Form.{form}
+use Rattle.audiogram.specs.Entry.{paperEntry, rightEntry, leftEntry, formEntry, entryAt}
 use Rattle.audiogram.specs.Picture.{size, byteAt, drawn}
-use Rattle.points.specs.declared.Point.{Point}
+use Rattle.marks.specs.declared.points.Point.{Point}
 
 -- ---- entries
 

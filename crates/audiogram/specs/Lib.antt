@@ -1,2 +1,4 @@
--- The rules of an audiogram's picture.
+-- An audiogram's picture: its form, and each pixel's palette entry.
 pub mod Picture
+pub mod Entry
+pub mod Form

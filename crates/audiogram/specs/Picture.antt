@@ -3,7 +3,7 @@ use Prim.Native.Nat.{ℕ, _+_, _*_, _/_, _%_, min}
 use mathlib.Core.List.{List, _++_}
 use lib.ListN.{length, drop}
 use Rattle.base.specs.Count.{run}
-use Rattle.entry.specs.Entry.{entryAt}
+use Rattle.audiogram.specs.Entry.{entryAt}
 
 -- 640 by 480 pixels of 2 bits
 abbrev pub size : ℕ

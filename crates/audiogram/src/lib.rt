@@ -1,9 +1,12 @@
 // A clinical audiogram in picture memory: 640 by 480 pixels of 2 bits, four to a byte, least significant bits first.
+mod entry;
+mod form;
+
 ghost use mathlib.Core.Path.{_≡_};
 ghost use Prim.Native.Nat.{_<_, min};
 ghost use Rattle.audiogram.specs.Picture.{byteAt, drawn, size};
-use points::Point;
-use thresholds::Chart;
+use marks::points::Point;
+use patient::thresholds::Chart;
 
 // The bytes of the picture.
 pub const SIZE: usize = 76800;
@@ -23,7 +26,7 @@ fn byte_at(right: &[u8; 11], left: &[u8; 11], i: usize) -> u8
 }
 
 // The bytes of the picture that a memory has room for.
-fn fitting(room: usize) -> usize
+fn room_for(room: usize) -> usize
     ensures smaller { λ r. ⌜ r ≡ min room size ⌝ }
 {
     if room < SIZE { room } else { SIZE }
@@ -35,7 +38,7 @@ pub fn draw(chart: Chart, memory: &mut [u8])
 {
     let right = chart.right;
     let left = chart.left;
-    let end = fitting(memory.len());
+    let end = room_for(memory.len());
     let mut i: usize = 0;
     while i < end {
         memory[i] = byte_at(&right, &left, i);

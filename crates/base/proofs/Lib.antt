@@ -3,3 +3,5 @@ pub mod Table
 pub mod Run
 pub mod Some
 pub mod Laying
+pub mod Bools
+pub mod Lists

@@ -1,4 +1,6 @@
 // What every rule uses: total helpers, each with one equation for its promise.
+pub mod channels;
+
 ghost use mathlib.Core.Path.{_≡_};
 ghost use mathlib.Core.Bool.{cond};
 ghost use Prim.Native.Nat.{_-_, _*_, _<_};

@@ -1,4 +1,4 @@
-// Reads a bench script on standard input and answers each of its commands on standard output (console.md).
+// Reads a bench script on standard input and answers each of its commands on standard output (docs/SCRIPT.md).
 fn main() {
-    session::session(says::ANSWERS);
+    session::session(report::ANSWERS);
 }

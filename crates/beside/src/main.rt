@@ -4,10 +4,11 @@ ghost use Prim.Native.Nat.{_+_, _<_};
 ghost use mathlib.Core.Path.{_≡_};
 ghost use lib.ListN.{length};
 ghost use Rattle.generator.specs.Tick.{tickOf};
-ghost use Rattle.counters.specs.Sound.{Sound};
-use counters::Generator;
+ghost use Rattle.generator.specs.Sound.{Sound};
+use generator::Generator;
 use generator::Ticked;
 use machine::Machine;
+use pixel::Sums;
 use registers::Registers;
 use signals::Signals;
 
@@ -33,8 +34,8 @@ fn lent_tick(r: Registers, mut g: Generator, memory: &[u8]) -> Ticked
 }
 
 fn same_record(a: Generator, b: Generator) -> bool {
-    let x = a.sums;
-    let y = b.sums;
+    let x: Sums = a.sums;
+    let y: Sums = b.sums;
     let sums = (x.red == y.red) & (x.green == y.green) & (x.blue == y.blue);
     let place = (a.half.0 == b.half.0) & (a.at.0 == b.at.0) & (a.seen.0 == b.seen.0);
     place & (a.held == b.held) & (a.asked == b.asked) & sums

@@ -6,28 +6,21 @@ use mathlib.Core.Bool.{true, false}
 use native.Mathlib.Omega.{arith}
 use mathlib.Core.List.{List, [], _∷_, map}
 use lib.ListN.{length, getD, replicate}
-use Rattle.base.specs.Count
 use Rattle.units.specs.Parameters
-use Rattle.limits.specs.Limits
-use Rattle.map.specs.Map
+use Rattle.screen.specs.Limits
+use Rattle.registers.specs.Map
 use Rattle.registers.specs.File
 use Rattle.memory.specs.Memory.{pixelShown}
 use Rattle.colour.specs.Colour.{maskedColour}
 use Rattle.pixel.specs.Dot.{dotAt}
-use Rattle.access.specs.Access
+use Rattle.machine.specs.Access
 use Rattle.machine.specs.Rules
-use Rattle.ear.specs.Ear.{shows}
-use Rattle.entry.specs.Entry.{paperEntry, rightEntry, leftEntry, formEntry, entryAt}
+use Rattle.marks.specs.Ear.{shows}
+use Rattle.audiogram.specs.Entry.{paperEntry, rightEntry, leftEntry, formEntry, entryAt}
 use Rattle.audiogram.specs.Picture.{size, drawn}
-use Rattle.points.specs.declared.Point.{Point}
+use Rattle.marks.specs.declared.points.Point.{Point}
 use Rattle.audiogram.proofs.Theorems.{drawn-pixel, entry-bound, right-where-shown, right-only-shown, left-where-shown, left-only-shown}
-use Rattle.settings.specs.Settings.{settings, settingsByte, settingsText}
-use Rattle.chart.specs.Started.{textOf, writes, refusals, table, started}
-
--- the text written is the table's, row by row
-pub settings-rows : settingsText ≡ textOf settings
-unfolding Count.run settingsByte settingsText textOf
-settings-rows = refl
+use Rattle.chart.specs.Started.{refusals, table, started}
 
 -- the machine takes every write, from its beginning on, and starts
 pub settings-accepted : refusals Rules.beginning table ≡ replicate 21 0
@@ -40,7 +33,7 @@ colour entry = maskedColour (started .regs .palette) (started .regs .mask) entry
 
 -- right ear red, left ear blue, paper white, form grey
 pub started-colours : map colour (rightEntry ∷ leftEntry ∷ paperEntry ∷ formEntry ∷ []) ≡ 0xFF0000 ∷ 0x0000FF ∷ 0xFFFFFF ∷ 0x606060 ∷ []
-unfolding started writes maskedColour Parameters.screenOf Limits.laterLimit Limits.limitOf Map.placeOf File.zeros File.valueIn File.storeIn Access.startLimit Access.writeRefusal Rules.stored Rules.written
+unfolding started maskedColour Parameters.screenOf Limits.laterLimit Limits.limitOf Map.placeOf File.zeros File.valueIn File.storeIn Access.startLimit Access.writeRefusal Rules.stored Rules.written
 started-colours = refl
 
 red : colour rightEntry ≡ 0xFF0000
@@ -72,7 +65,7 @@ only-blue (suc (suc (suc (suc entry)))) h e = absurd (omega arith)
 
 -- how it reads memory: 2 bits a pixel, transfers on, cursor off
 started-control : started .regs .control ≡ 0x900001
-unfolding started writes Parameters.screenOf Limits.laterLimit Limits.limitOf Map.placeOf File.zeros File.valueIn File.storeIn Access.startLimit Access.writeRefusal Rules.stored Rules.written
+unfolding started Parameters.screenOf Limits.laterLimit Limits.limitOf Map.placeOf File.zeros File.valueIn File.storeIn Access.startLimit Access.writeRefusal Rules.stored Rules.written
 started-control = refl
 
 module _ (right left memory : List ℕ) (room : size ≤ length memory) (p : Point) (h : p .x < 640) (l : p .y < 480) where

@@ -3,44 +3,36 @@
 use Prim.Native.Nat.{ℕ, _+_, _*_, _-_, _/_, _%_, _≤_, _<_}
 use mathlib.Core.Path.{_≡_, refl, _∙_, ap}
 use mathlib.Core.Bool.{true, false}
-use mathlib.Core.List.{List, [], _∷_}
+use mathlib.Core.List.{List}
 use native.Mathlib.Omega.{arith}
 use lib.ListN.{length, getD}
 use Rattle.base.specs.Count
 use Rattle.base.proofs.Run.{run-entry}
 use Rattle.control.specs.Control.{running, forcedBlank, transferring, increment, pixelBits}
 use Rattle.units.specs.Parameters
-use Rattle.limits.specs.Limits
+use Rattle.screen.specs.Limits
 use Rattle.screen.specs.Totals
-use Rattle.map.specs.Map
+use Rattle.registers.specs.Map
 use Rattle.registers.specs.File
 use Rattle.registers.specs.declared.Registers.{Registers}
 use Rattle.pixel.specs.Dot.{dotAt}
 use Rattle.signals.specs.Signals.{black}
 use Rattle.signals.specs.declared.Dot.{Dot}
-use Rattle.counters.specs.Rows
+use Rattle.generator.specs.Rows
 use Rattle.generator.specs.Tick
-use Rattle.access.specs.Access
+use Rattle.machine.specs.Access
 use Rattle.machine.specs.Rules
-use Rattle.machine.specs.declared.Machine.{Machine}
-use Rattle.machine.proofs.Soundness.{SoundMachine, beginning-sound, write-sound}
+use Rattle.machine.specs.Conditions.{SoundMachine}
+use Rattle.machine.proofs.Soundness.{beginning-sound, calls-sound}
 use Rattle.frame.specs.Frame
 use Rattle.frame.specs.Demand.{firstPlace, Ready}
 use Rattle.frame.proofs.Demand.{demand-3}
-use Rattle.entry.specs.Entry.{entryAt}
+use Rattle.audiogram.specs.Entry.{entryAt}
 use Rattle.audiogram.specs.Picture.{size, drawn}
-use Rattle.points.specs.declared.Point.{Point}
+use Rattle.marks.specs.declared.points.Point.{Point}
 use Rattle.audiogram.proofs.Theorems.{drawn-length}
-use Rattle.settings.specs.Settings.{addressOf, valueOf}
-use Rattle.chart.specs.Started.{writes, table, started}
+use Rattle.chart.specs.Started.{writesOf, table, started}
 use Rattle.chart.proofs.Colours.{colour, shown-entry}
-
--- every write keeps the one condition
-writes-sound : (m : Machine) (settings : List ℕ) → SoundMachine m → SoundMachine (writes m settings)
-unfolding writes
-writes-sound m [] z = z
-writes-sound m (setting ∷ rest) z =
-    writes-sound (Rules.written m (addressOf setting) (valueOf setting) .machine) rest (write-sound m (addressOf setting) (valueOf setting) z)
 
 -- the screen that the script sets, in numbers
 pub record Numbers (r : Registers) : Type 0 where
@@ -55,17 +47,17 @@ pub record Numbers (r : Registers) : Type 0 where
   pub unblanked : forcedBlank (r .control) ≡ false
 
 pub started-numbers : Numbers (started .regs)
-unfolding started writes Parameters.screenOf Limits.laterLimit Limits.limitOf Map.placeOf File.zeros File.valueIn File.storeIn Access.startLimit Access.writeRefusal Rules.stored Rules.written
+unfolding started Parameters.screenOf Limits.laterLimit Limits.limitOf Map.placeOf File.zeros File.valueIn File.storeIn Access.startLimit Access.writeRefusal Rules.stored Rules.written Rows.topUsed Rows.rowDivisor
 started-numbers =
     record { ticks = refl; pixels = refl; width = refl; first = refl; room = refl; last = refl; runs = refl; transfers = refl; unblanked = refl }
 
 started-start : Frame.AtStart (started .generator)
-unfolding started writes Parameters.screenOf Limits.laterLimit Limits.limitOf Map.placeOf File.zeros File.valueIn File.storeIn Access.startLimit Access.writeRefusal Rules.stored Rules.written
+unfolding started Parameters.screenOf Limits.laterLimit Limits.limitOf Map.placeOf File.zeros File.valueIn File.storeIn Access.startLimit Access.writeRefusal Rules.stored Rules.written
 started-start = record { half = refl; at = refl }
 
 started-sound : SoundMachine started
 unfolding started
-started-sound = writes-sound Rules.beginning table beginning-sound
+started-sound = calls-sound Rules.beginning (writesOf table) beginning-sound
 
 -- dot n of a frame that begins at place 0 and is 640 pixels wide
 dot-number : (r : Registers) (position : ℕ) (m : List ℕ) (first width n x y : ℕ) → first ≡ 0 → width ≡ 640 → n ≡ y * 640 + x → x < 640 → dotAt r position m (first + (0 + n)) ((0 + n) % width) ((0 + n) / width) ≡ dotAt r position m (y * 640 + x) x y

@@ -1,2 +1,2 @@
--- The rules of the script's register writes.
+-- The machine after the script's register writes.
 pub mod Started

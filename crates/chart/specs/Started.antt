@@ -2,19 +2,16 @@
 use Prim.Native.Nat.{ℕ}
 use mathlib.Core.List.{List, [], _∷_, _++_}
 use Rattle.machine.specs.Rules.{beginning, written}
+use Rattle.machine.specs.Calls.{Call, write, afterAll}
 use Rattle.machine.specs.declared.Machine.{Machine}
-use Rattle.settings.specs.Settings.{addressOf, valueOf, rowText, settings, start}
+use Rattle.scribe.specs.Settings.{addressOf, valueOf, settings, start}
 
--- what is written for a table: the text of each row
-unfoldable pub textOf : List ℕ → List ℕ
-textOf [] = []
-textOf (setting ∷ rest) = rowText (addressOf setting) (valueOf setting) ++ textOf rest
+-- a table's writes, in order
+abbrev pub writesOf : List ℕ → List Call
+writesOf [] = []
+writesOf (setting ∷ rest) = write (addressOf setting) (valueOf setting) ∷ writesOf rest
 
--- the machine after a table's writes, and what each answers
-unfoldable pub writes : Machine → List ℕ → Machine
-writes m [] = m
-writes m (setting ∷ rest) = writes (written m (addressOf setting) (valueOf setting) .machine) rest
-
+-- what each answers
 unfoldable pub refusals : Machine → List ℕ → List ℕ
 refusals m [] = []
 refusals m (setting ∷ rest) =
@@ -25,4 +22,4 @@ abbrev pub table : List ℕ
 table = settings ++ (start ∷ [])
 
 unfoldable pub started : Machine
-started = writes beginning table
+started = afterAll beginning (writesOf table)

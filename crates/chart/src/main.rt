@@ -1,13 +1,16 @@
 // Reads a patient's thresholds on standard input and writes the bench script that draws their chart; a wrong line is named on standard error.
-use thresholds::Chart;
+use input::LINE;
+use patient::level;
+use patient::thresholds;
+use patient::thresholds::Chart;
+use scribe::pokes;
+use scribe::settings;
 
-// The chart read so far, the lines read, a fault or 0, the bytes held of a line that has not ended, and whether more may come.
+// The chart read so far, the lines read, and a fault or 0.
 struct Desk {
     chart: Chart,
     lines: u64,
     fault: u32,
-    held: usize,
-    more: bool,
 }
 
 // The picture memory of a chart.
@@ -16,8 +19,8 @@ fn picture_room() -> [u8; 76800] {
 }
 
 // Writes what waits.
-fn written(out: &[u8], waiting: usize) -> usize {
-    io::write_all(1, parts::lent(out, waiting));
+fn write_out(out: &[u8], waiting: usize) -> usize {
+    io::write_all(1, room::lent(out, waiting));
     0
 }
 
@@ -26,7 +29,7 @@ fn spaced(out: &[u8], waiting: usize) -> usize {
     if waiting < 65000 {
         return waiting;
     }
-    written(out, waiting)
+    write_out(out, waiting)
 }
 
 // A part of the memory with nothing on it.
@@ -45,9 +48,8 @@ fn poke(out: &mut [u8], waiting: usize, part: &[u8], at: u32) -> usize {
     if is_blank(part) {
         return waiting;
     }
-    let line = pokes::poke_text(at, part);
     let room = spaced(out, waiting);
-    room::put(out, room, &line)
+    pokes::put_poke(out, room, at, part)
 }
 
 // The picture memory, 64 bytes a line.
@@ -59,10 +61,10 @@ fn pokes(out: &mut [u8], at: usize, memory: &[u8]) -> usize {
         waiting = poke(
             out,
             waiting,
-            parts::lent(left, 64),
+            room::lent(left, 64),
             (from % 0x1000000) as u32,
         );
-        from = parts::later(from, 64, memory.len());
+        from = room::later(from, 64, memory.len());
     }
     waiting
 }
@@ -71,15 +73,13 @@ fn pokes(out: &mut [u8], at: usize, memory: &[u8]) -> usize {
 fn script_for(chart: Chart, out: &mut [u8]) {
     let mut memory = picture_room();
     audiogram::draw(chart, &mut memory);
-    let table = settings::settings_text();
-    let start = settings::start_text();
-    let set = room::put(out, 0, &table);
+    let set = settings::put_settings(out, 0);
     let size = room::put(out, set, b"memory 76800\n");
     let poked = pokes(out, size, &memory);
     let room = spaced(out, poked);
-    let started = room::put(out, room, &start);
+    let started = settings::put_start(out, room);
     let end = room::put(out, started, b"run 105000\npicture 921600\nnine\n");
-    written(out, end);
+    write_out(out, end);
 }
 
 // What is wrong with a line.
@@ -114,11 +114,11 @@ fn complain(lines: u64, fault: u32, out: &mut [u8]) {
     let number = text::put_decimal(out, word, lines);
     let colon = room::put(out, number, b": ");
     let end = phrase(out, colon, fault);
-    io::write_all(2, parts::lent(out, end));
+    io::write_all(2, room::lent(out, end));
 }
 
 // A whole line; after a wrong one no other is read.
-fn taken(d: Desk, line: &[u8]) -> Desk {
+fn line_read(d: Desk, line: &[u8]) -> Desk {
     if d.fault != 0 {
         return d;
     }
@@ -129,80 +129,36 @@ fn taken(d: Desk, line: &[u8]) -> Desk {
         chart: next,
         lines: input::one_more(d.lines),
         fault: reading.fault,
-        held: 0,
-        more: true,
     }
 }
 
-// The desk with other bytes held.
-fn holding(d: Desk, held: usize) -> Desk {
-    let mut next = d;
-    next.held = held;
-    next
-}
-
-// The lines that end in a piece of the input; what is left stands in `line`.
-fn pieced(d: Desk, piece: &[u8], line: &mut [u8]) -> Desk {
-    let mut desk = d;
-    let mut count = d.held;
-    let mut at: usize = 0;
-    while at < piece.len() {
-        let held = input::take_line(piece, at, line, count);
-        at = held.at;
-        count = held.length;
-        if held.ended {
-            desk = taken(desk, input::line_of(line, count, true));
-            count = 0;
-        }
-    }
-    holding(desk, count)
-}
-
-// One read of the input, and the lines that end in it.
-fn read_some(d: Desk, line: &mut [u8]) -> Desk {
-    let mut input = io::large_buffer();
-    let got = libc::read(0, &mut input);
-    let count = io::count(got, &input);
-    let mut desk = pieced(d, &input[..count], line);
-    desk.more = 0 < count;
-    desk
-}
-
-// The input's end: a last line may lack its own.
-fn finished(d: Desk, line: &[u8], out: &mut [u8]) {
-    let held = d.held;
-    let mut last = d;
-    if 0 < held {
-        last = taken(d, input::line_of(line, held, false));
-    }
-    if last.fault != 0 {
-        complain(last.lines, last.fault, out);
-        return;
-    }
-    let chart = last.chart;
-    script_for(chart, out);
-}
-
-// The whole input. A loop has to end, and nothing says that an input does: it counts from a number that no input uses up.
-fn session(out: &mut [u8]) {
-    let mut line = [0u8; 1002];
+// The whole input.
+fn read_all() -> Desk {
+    let mut piece = io::large_buffer();
+    let mut line = [0u8; LINE];
     let chart = thresholds::fresh();
     let mut desk = Desk {
         chart,
         lines: 0,
         fault: 0,
-        held: 0,
-        more: true,
     };
-    let mut turns = u64::MAX;
-    while 0 < turns {
-        desk = read_some(desk, &mut line);
-        turns = base::choose(desk.more, turns - 1, 0);
+    let mut reader = input::begin();
+    while 0 < reader.turns {
+        reader = input::next(reader, &mut piece, &mut line);
+        if input::is_line(reader) {
+            desk = line_read(desk, input::line_of(reader, &line));
+        }
     }
-    finished(desk, &line, out);
+    desk
 }
 
 fn main() {
     let mut out = io::large_buffer();
-    session(&mut out);
+    let desk = read_all();
+    if desk.fault != 0 {
+        complain(desk.lines, desk.fault, &mut out);
+        return;
+    }
+    let chart = desk.chart;
+    script_for(chart, &mut out);
 }

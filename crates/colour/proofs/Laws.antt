@@ -6,17 +6,18 @@ use native.Mathlib.Omega.{arith}
 use lib.Bits.{bitAnd}
 use lib.ListN.{length, getD}
 use Rattle.base.proofs.Run.{run-length, run-entry}
-use Rattle.colour.specs.Colour.{red, green, blue, colourOf, maskedColour, maskedPalette}
+use Rattle.base.specs.Channels.{red, green, blue, joined}
+use Rattle.colour.specs.Colour.{maskedColour, maskedPalette}
 
 -- a colour made of three bytes has these bytes
 module _ (r g b : ℕ) (p : r < 0x100) (q : g < 0x100) (s : b < 0x100) where
-  pub red-of-colour : red (colourOf r g b) ≡ r
+  pub red-of-colour : red (joined r g b) ≡ r
   red-of-colour = omega arith
 
-  pub green-of-colour : green (colourOf r g b) ≡ g
+  pub green-of-colour : green (joined r g b) ≡ g
   green-of-colour = omega arith
 
-  pub blue-of-colour : blue (colourOf r g b) ≡ b
+  pub blue-of-colour : blue (joined r g b) ≡ b
   blue-of-colour = omega arith
 
 module _ (palette : List ℕ) (mask pixel : ℕ) where

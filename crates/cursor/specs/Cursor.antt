@@ -5,7 +5,7 @@ use mathlib.Core.List.{List}
 use lib.Dec.{ltb}
 use lib.IntN.{ℤ, pos, negsuc, _-ℤ_}
 use lib.ListN.{getD}
-use Rattle.control.specs.Control.{field}
+use Rattle.control.specs.Control.{field, cursorOn}
 
 -- a 12-bit field in two's complement: from -2,048 to 2,047
 abbrev pub signed12 : ℕ → ℤ
@@ -31,6 +31,10 @@ codeWithin store (negsuc row) column = 0
 -- the code of pixel x of line y under a cursor at a position
 unfoldable pub cursorCode : List ℕ → ℕ → ℕ → ℕ → ℕ
 cursorCode store position x y = codeWithin store (cursorRow position y) (cursorColumn position x)
+
+-- the same where it is switched on by the control, and 00 where it is off
+abbrev pub codeOver : ℕ → ℕ → List ℕ → ℕ → ℕ → ℕ
+codeOver control position store x y = cond (cursorOn control) (cursorCode store position x y) 0
 
 -- 00 is transparent; 01, 10, 11 are cursor colours 1, 2, 3
 abbrev pub over : List ℕ → ℕ → ℕ → ℕ

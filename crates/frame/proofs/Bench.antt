@@ -9,19 +9,21 @@ use lib.ListN.{getD, replicate, List·getD-eq-default}
 use Rattle.base.specs.Count.{run}
 use Rattle.base.proofs.Table.{entry}
 use Rattle.units.specs.Parameters.{screenOf}
-use Rattle.limits.specs.Limits.{limitOf, laterLimit, Accepted}
+use Rattle.screen.specs.Limits.{limitOf, laterLimit, Accepted}
 use Rattle.screen.specs.Totals.{totalsOf}
-use Rattle.limits.proofs.Laws.{accepted}
-use Rattle.registers.specs.File.{Held}
-use Rattle.registers.proofs.Laws.{zeros-held}
-use Rattle.counters.specs.Counters.{fresh}
-use Rattle.counters.specs.Sound.{Sound}
-use Rattle.counters.proofs.Shown.{below}
-use Rattle.generator.proofs.Kept.{fresh-placed}
-use Rattle.frame.specs.Bench.{benchParameters, benchControl, benchRegisters}
+use Rattle.screen.proofs.limits.Laws.{accepted}
+use Rattle.registers.specs.File.{InWidths}
+use Rattle.registers.proofs.Laws.{zeros-in-widths}
+use Rattle.generator.specs.Rows.{topUsed, rowDivisor}
+use Rattle.generator.specs.Counters.{fresh}
+use Rattle.generator.specs.Sound.{Sound}
+use Rattle.generator.proofs.Kept.{fresh-placed, fresh-rolled}
+use Rattle.screen.specs.Bench.{benchParameters}
+use Rattle.frame.specs.Bench.{benchControl, benchRegisters}
 use Rattle.frame.specs.Demand.{addressesAnswered, Ready, Counted}
 use Rattle.frame.proofs.Demand.{demand-3}
 use Rattle.frame.proofs.Totals.{frame-totals}
+use Rattle.base.proofs.Bools.{below}
 
 parameter-in : (k : ℕ) → getD benchParameters k 0 ≤ 0xFFFFFF
 parameter-in k =
@@ -30,22 +32,22 @@ parameter-in k =
     (λ p. let e = List·getD-eq-default benchParameters 0 p in omega arith)
     (below k 14)
 
-bench-held : Held benchRegisters
+bench-in-widths : InWidths benchRegisters
 unfolding benchRegisters
-bench-held =
+bench-in-widths =
     record {
       params-length = refl;
-      colours-length = zeros-held .colours-length;
-      palette-length = zeros-held .palette-length;
-      store-length = zeros-held .store-length;
+      colours-length = zeros-in-widths .colours-length;
+      palette-length = zeros-in-widths .palette-length;
+      store-length = zeros-in-widths .store-length;
       params = parameter-in;
-      mask = zeros-held .mask;
+      mask = zeros-in-widths .mask;
       control = omega arith;
       top = omega arith;
-      colours = zeros-held .colours;
-      position = zeros-held .position;
-      palette = zeros-held .palette;
-      store = zeros-held .store;
+      colours = zeros-in-widths .colours;
+      position = zeros-in-widths .position;
+      palette = zeros-in-widths .palette;
+      store = zeros-in-widths .store;
     }
 
 -- none of 10 to 17, computed
@@ -60,11 +62,11 @@ bench-accepted = accepted benchControl (screenOf benchParameters) bench-unlimite
 pub bench-sound : Sound benchRegisters fresh
 unfolding benchRegisters
 bench-sound =
-    record { held = bench-held; in-build = refl; accepted = λ on. bench-accepted; placed = λ on. fresh-placed benchRegisters bench-accepted }
+    record { widths = bench-in-widths; in-build = refl; rolled = fresh-rolled; accepted = λ on. bench-accepted; placed = λ on. fresh-placed benchRegisters bench-accepted }
 
 -- sixteen bytes are enough
 pub bench-ready : Ready benchRegisters (replicate 16 0) fresh
-unfolding benchRegisters screenOf
+unfolding benchRegisters screenOf topUsed rowDivisor
 bench-ready =
     record {
       sound = bench-sound;
@@ -83,5 +85,5 @@ bench-totals = frame-totals benchRegisters (replicate 16 0) fresh bench-ready
 
 -- and its addresses 7 and 263
 pub bench-addresses : addressesAnswered benchRegisters (replicate 16 0) fresh 63 ≡ 7 ∷ 263 ∷ []
-unfolding benchRegisters screenOf run
+unfolding benchRegisters screenOf topUsed run
 bench-addresses = demand-3 benchRegisters (replicate 16 0) fresh bench-ready .addresses

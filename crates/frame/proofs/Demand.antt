@@ -4,7 +4,7 @@ use Prim.Native.Nat.{ℕ, zero, suc, _+_, _-_, _*_, _/_, _%_, _≤_, _<_}
 use mathlib.Core.Bool.{Bool, true, false, not, cond, _&&_}
 use mathlib.Core.List.{List, [], _∷_, _++_}
 use mathlib.Core.Path.{_≡_, refl, ap, _∙_}
-use native.Mathlib.Nat.{mod-lt, mod-eq-of-lt, div-eq-of-lt-le, div-lt-iff-lt-mul, div-add-mod', add-mul-div-right, mul-le-mul-right, zero-add}
+use native.Mathlib.Nat.{mod-lt, mod-eq-of-lt, div-eq-of-lt-le, div-lt-iff-lt-mul, div-add-mod', mul-le-mul-right, zero-add}
 use native.Mathlib.Omega.{arith}
 use borrow.Author.Tests.{eqb-true, eqb-false, ltb-false, le-ltb}
 use lib.Dec.{ltb, eqb}
@@ -12,22 +12,23 @@ use lib.ListN.{length, length-append}
 use Rattle.base.specs.Count.{count, some, run}
 use Rattle.base.proofs.Run.{run-length, run-append, run-same}
 use Rattle.control.specs.Control.{forcedBlank, transferring, increment, pixelBits}
-use Rattle.control.proofs.Laws.{increment-positive}
 use Rattle.units.specs.Parameters.{rowLength}
-use Rattle.limits.specs.Limits.{Accepted}
+use Rattle.screen.specs.Limits.{Accepted}
 use Rattle.screen.specs.Totals.{frameTicks, frameVisible, frameTransfers, framePixels, roundedUp}
 use Rattle.units.specs.declared.Screen.{Screen}
 use Rattle.registers.specs.declared.Registers.{Registers}
 use Rattle.memory.specs.Memory.{endsBeyond}
 use Rattle.pixel.specs.Dot.{dotAt}
-use Rattle.counters.specs.Rows.{screen, visibleAt, shows, topUsed, transferAt, heldAddress, place}
+use Rattle.generator.specs.Rows.{screen, visibleAt, shows, topUsed, transferAt, heldAddress, place}
 use Rattle.generator.specs.Tick.{positionUsed, dotOf, refuses20, seenAfter, signals, signalsWith, tickRefusal, tickOf, after}
-use Rattle.counters.specs.declared.Generator.{Generator}
+use Rattle.generator.specs.declared.Generator.{Generator}
 use Rattle.signals.specs.declared.Signals.{Signals}
 use Rattle.frame.specs.Frame.{AtStart, rowAddress, addressAt, placeAt, dotFor, pictureRefuses20, frameEnd, Whole}
 use Rattle.frame.specs.Demand.{answer, isShown, isTransfer, addressesAnswered, placesShown, firstPlace, Ready, Demand3}
 use Rattle.base.proofs.Some.{some-none, some-at}
-use Rattle.frame.proofs.Place.{ticks-some, visible-some, rows-some, start-number}
+use Rattle.generator.proofs.FirstVisible.{frame-some}
+use Rattle.generator.proofs.Rows.{top-used-in, row-number-on}
+use Rattle.frame.proofs.Place.{ticks-some, rows-some, start-number}
 use Rattle.frame.proofs.Rows.{by-four}
 use Rattle.frame.proofs.Whole.{row-lit, unrefused as unrefused-tick, before-tick, by-ticks, whole}
 
@@ -89,7 +90,7 @@ module _ (r : Registers) (ok : Accepted (r .control) (screen r)) (unrolled : top
 
   place-plain : (j v k : ℕ) → place r (topUsed r + j * I) v k ≡ firstPlace r + (4 * (j * R + v % R) + k)
   unfolding place
-  place-plain j v k = rw (add-mul-div-right (topUsed r) j (increment-positive (r .control))) (omega arith)
+  place-plain j v k = rw (row-number-on r (topUsed r) j) (omega arith)
 
   -- the places run on from the first, across rows and lines
   place-on : (v k : ℕ) → v < N → place r (addressAt r v) v k ≡ firstPlace r + (4 * v + k)
@@ -117,7 +118,7 @@ module _ (r : Registers) (ok : Accepted (r .control) (screen r)) (unrolled : top
       where
         go : (x : Bool) → ltb (8 * length m) ((firstPlace r + 4 * N) * bits) ≡ x → some (λ i. endsBeyond bits m (placeAt r i)) (4 * N) ≡ x
         go true e =
-            let n = visible-some (r .control) (screen r) ok in
+            let n = frame-some (r .control) (screen r) ok in
             let last : firstPlace r + (4 * N - 1) + 1 ≡ firstPlace r + 4 * N = omega arith in
             some-at (λ i. endsBeyond bits m (placeAt r i)) (4 * N) (4 * N - 1) (omega arith) (beyond (4 * N - 1) (omega arith) ∙ rw last e)
         go false e =
@@ -137,6 +138,9 @@ module _ (r : Registers) (m : List ℕ) (g : Generator) (d : Ready r m g) where
   ok : Accepted (r .control) S
   ok = d .sound .accepted (d .runs)
 
+  top-in : topUsed r ≤ 0xFFFFFF
+  top-in = top-used-in r (d .sound .widths)
+
   some-row : 0 < rowLength S
   some-row = rows-some (r .control) S ok
 
@@ -153,12 +157,12 @@ module _ (r : Registers) (m : List ℕ) (g : Generator) (d : Ready r m g) where
 
   module _ (n : ℕ) (l : n < F) where
     unrefused-here : refuses20 r m (G n) ≡ false
-    unrefused-here = unrefused-tick r m (d .runs) ok (d .sound .held .top) g (d .sound .placed (d .runs)) (d .start) unrefused-picture n l
+    unrefused-here = unrefused-tick r m (d .runs) ok top-in g (d .sound .placed (d .runs)) (d .start) unrefused-picture n l
 
     held-here : visibleAt r (G n) ≡ true → heldAddress r (G n) ≡ addressAt r (G n .seen .0)
     held-here =
-        row-lit r m (d .runs) ok (d .sound .held .top) n (G n)
-        (before-tick r m (d .runs) ok (d .sound .held .top) g (d .sound .placed (d .runs)) (d .start) unrefused-picture n l)
+        row-lit r m (d .runs) ok top-in n (G n)
+        (before-tick r m (d .runs) ok top-in g (d .sound .placed (d .runs)) (d .start) unrefused-picture n l)
 
     answered : answer r m g n .refusal ≡ 0
     unfolding tickOf tickRefusal
@@ -168,9 +172,9 @@ module _ (r : Registers) (m : List ℕ) (g : Generator) (d : Ready r m g) where
     unfolding tickOf tickRefusal
     says = simp (d .runs, unrefused-here)
 
-    shown : isShown r m g n ≡ visibleAt r (G n)
+    pub shown-visible : isShown r m g n ≡ visibleAt r (G n)
     unfolding signalsWith shows
-    shown = ap (λ (q : Signals). not (q .blank)) says ∙ simp (d .unblanked) (go (visibleAt r (G n)))
+    shown-visible = ap (λ (q : Signals). not (q .blank)) says ∙ simp (d .unblanked) (go (visibleAt r (G n)))
       where
         go : (x : Bool) → not (not (x && true)) ≡ x
         go true = refl
@@ -187,7 +191,7 @@ module _ (r : Registers) (m : List ℕ) (g : Generator) (d : Ready r m g) where
   -- ---- the counts and the lists, tick by tick
 
   by-frame : (P : ℕ → ℕ → Type 0) → P 0 0 → ((n : ℕ) → n < F → P n (G n .seen .0) → P (suc n) (seenAfter r (G n))) → P F (frameVisible S)
-  by-frame P base on = by-ticks r m (d .runs) ok (d .sound .held .top) g (d .sound .placed (d .runs)) (d .start) unrefused-picture P base on
+  by-frame P base on = by-ticks r m (d .runs) ok top-in g (d .sound .placed (d .runs)) (d .start) unrefused-picture P base on
 
   Shown : ℕ → ℕ → Type 0
   Shown n v = count (isShown r m g) n ≡ v
@@ -198,7 +202,7 @@ module _ (r : Registers) (m : List ℕ) (g : Generator) (d : Ready r m g) where
 
   shown-on : (n : ℕ) → n < F → Shown n (G n .seen .0) → Shown (suc n) (seenAfter r (G n))
   unfolding Shown count seenAfter
-  shown-on n l e = rw (shown n l, e)
+  shown-on n l e = rw (shown-visible n l, e)
 
   visible-ticks : count (isShown r m g) F ≡ frameVisible S
   unfolding Shown
@@ -256,7 +260,7 @@ module _ (r : Registers) (m : List ℕ) (g : Generator) (d : Ready r m g) where
 
   placed-on : (n : ℕ) → n < F → Placed n (G n .seen .0) → Placed (suc n) (seenAfter r (G n))
   unfolding Placed placesShown seenAfter
-  placed-on n l ih = rw (shown n l, ih) (go (visibleAt r (G n)) refl)
+  placed-on n l ih = rw (shown-visible n l, ih) (go (visibleAt r (G n)) refl)
     where
       v : ℕ
       v = G n .seen .0
@@ -296,7 +300,7 @@ module _ (r : Registers) (m : List ℕ) (g : Generator) (d : Ready r m g) where
 
   only : (k : ℕ) → 0 < k → k < F → AtStart (G k) → ⊥
   only k p l b =
-      let i = before-tick r m (d .runs) ok (d .sound .held .top) g (d .sound .placed (d .runs)) (d .start) unrefused-picture k l in
+      let i = before-tick r m (d .runs) ok top-in g (d .sound .placed (d .runs)) (d .start) unrefused-picture k l in
       omega (arith, start-number (r .control) S ok k (G k) (i .at) b)
 
   frame-addresses : addressesAnswered r m g F ≡ run (λ j. topUsed r + j * increment (r .control)) 0 (frameTransfers S)
@@ -306,7 +310,7 @@ module _ (r : Registers) (m : List ℕ) (g : Generator) (d : Ready r m g) where
   pub demand-3 : Demand3 r m g
   demand-3 =
       record {
-        answered = answered;
+        unrefused = answered;
         some = ticks-some (r .control) S ok;
         returns = rw frame-ends back;
         not-before = only;

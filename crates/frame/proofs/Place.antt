@@ -1,27 +1,27 @@
 -- Where the generator stands before tick n of a frame, and which tick is the first of VDisplay and which the frame's last. Assumes nothing.
-use Prim.Native.Nat.{ℕ, _+_, _-_, _*_, _/_, _%_, _≤_, _<_, min}
-use mathlib.Core.Bool.{true, false}
+use Prim.Native.Nat.{ℕ, _+_, _*_, _≤_, _<_}
+use mathlib.Core.Bool.{true, false, cond}
 use mathlib.Core.Logic.{_⊎_, ⊎-elim}
 use mathlib.Core.Path.{_≡_, sym, _∙_}
 use native.Mathlib.Nat.{mul-le-mul-right, mul-pos, zero-mul}
 use native.Mathlib.Omega.{arith}
-use borrow.Author.Tests.{le-ltb, le-leb}
-use Rattle.units.specs.Parameters.{halfTicks, displayFrom, halvesToVBlank, halvesToVDisplay, halvesInFrame, rowLength}
-use Rattle.limits.specs.Limits.{Accepted}
+use Rattle.units.specs.Parameters.{halfTicks, halvesToVDisplay, halvesInFrame, rowLength}
+use Rattle.screen.specs.Limits.{Accepted}
 use Rattle.screen.specs.Totals.{frameTicks, frameVisible}
 use Rattle.units.specs.declared.Screen.{Screen}
-use Rattle.limits.proofs.Laws.{narrow}
+use Rattle.screen.proofs.limits.Laws.{narrow}
 use Rattle.registers.specs.declared.Registers.{Registers}
 use Rattle.pixel.specs.declared.Sums.{Sums}
-use Rattle.lines.specs.Lines.{visible, tickNumber}
-use Rattle.counters.specs.Rows.{screen}
+use Rattle.lines.specs.Lines.{visible, tickNumber, visibleBefore}
+use Rattle.generator.specs.Rows.{screen}
 use Rattle.generator.specs.Tick.{stepWith}
-use Rattle.counters.specs.Sound.{shownBefore, Placed}
-use Rattle.counters.specs.declared.Generator.{Generator}
-use Rattle.counters.proofs.Shown.{below, dark, lit, line-first, line-second, shownAt, shown-dark, shown-lit, shown-closed}
-use Rattle.stand.proofs.Stands.{row-some}
+use Rattle.generator.specs.Sound.{Placed}
+use Rattle.generator.specs.declared.Generator.{Generator}
+use Rattle.generator.proofs.VisibleBefore.{dark, visible-next, visible-none, visible-opens, frame-visible}
+use Rattle.generator.proofs.Rows.{row-some}
 use Rattle.generator.proofs.Kept.{next, closes-before, last-at, last-half, step-placed}
 use Rattle.frame.specs.Frame.{AtStart}
+use Rattle.base.proofs.Bools.{below}
 
 -- placed, before tick n of the frame
 pub record AtTick (s : Screen) (n : ℕ) (g : Generator) : Type 0 where
@@ -43,15 +43,12 @@ module _ (control : ℕ) (s : Screen) (ok : Accepted control s) where
   pub ticks-some : 0 < frameTicks s
   ticks-some = mul-pos {m = halfTicks s} (omega (arith, ok .half-holds)) (omega (arith, ok .bounded .vdisplay .low))
 
-  pub visible-some : 0 < frameVisible s
-  visible-some = mul-pos {m = s .display .0} (ok .bounded .display .low) (omega (arith, ok .bounded .vdisplay .low, ok .display-even))
-
   pub rows-some : 0 < rowLength s
   rows-some = row-some s (narrow s (ok .bounded))
 
   -- a frame starts before its tick 0, with nothing seen
-  start-seen : (h u : ℕ) → h ≡ 0 → u ≡ 0 → shownBefore s (tickNumber s h u) ≡ 0
-  start-seen h u p q = shown-closed control s ok h u (omega (arith, ok .half-holds)) ∙ shown-dark s h u (omega (arith, ok .bounded .vpreequalise .low))
+  start-seen : (h u : ℕ) → h ≡ 0 → u ≡ 0 → visibleBefore s (tickNumber s h u) ≡ 0
+  start-seen h u p q = visible-none control s ok h u (omega (arith, ok .half-holds)) (omega (arith, ok .bounded .vpreequalise .low))
 
   module _ (g : Generator) (p : Placed s g) (b : AtStart g) where
     pub at-start : AtTick s 0 g
@@ -67,9 +64,6 @@ module _ (control : ℕ) (s : Screen) (ok : Accepted control s) where
     abbrev u : ℕ
     u = g .at .0
 
-    shown-is : g .seen .0 ≡ shownAt s h u
-    shown-is = a .placed .seen-is ∙ shown-closed control s ok h u (a .placed .at-in)
-
     -- a frame starts at its tick 0 only
     pub start-number : AtStart g → n ≡ 0
     start-number b =
@@ -84,25 +78,14 @@ module _ (control : ℕ) (s : Screen) (ok : Accepted control s) where
       pub end-half : halvesInFrame s ≤ h + 1
       end-half = last-half s h u (a .placed .half-in) (a .placed .at-in) (omega (arith, a .number))
 
-      second-half : (h + halvesToVBlank s) % 2 ≡ 1
-      second-half = omega (arith, end-half, a .placed .half-in, ok .display-even, ok .blank-even)
-
       in-display : halvesToVDisplay s ≤ h
       in-display = omega (arith, end-half, ok .bounded .vdisplay .low)
 
-      past : displayFrom s + s .display .0 ≤ halfTicks s + u
-      past = omega (arith, end-at, ok .line-holds, ok .line-even)
-
-      -- it is not visible, and all visible ones lie before it
-      pub end-dark : visible s h u ≡ false
-      end-dark =
-          simp (lit s h u in-display, line-second s h u second-half, le-leb (displayFrom s) (halfTicks s + u) (omega (arith, past)), le-ltb (halfTicks s + u) (displayFrom s + s .display .0) past)
-
-      pub end-seen : g .seen .0 ≡ frameVisible s
+      -- past it all visible ones are counted
+      pub end-seen : cond (visible s h u) (g .seen .0 + 1) (g .seen .0) ≡ frameVisible s
       end-seen =
-          let k : s .vdisplay .0 / 2 ≡ (h - halvesToVDisplay s) / 2 + 1 = omega (arith, end-half, a .placed .half-in, ok .display-even, ok .bounded .vdisplay .low) in
-          let d : min (s .display .0) (halfTicks s + u - displayFrom s) ≡ s .display .0 = omega (arith, past) in
-          shown-is ∙ simp (shown-lit s h u in-display, line-second s h u second-half, d, k) (omega arith)
+          let last : tickNumber s h u + 1 ≡ frameTicks s = omega (arith, a .number) in
+          rw (a .placed .seen-is) (sym (visible-next control s ok h u (a .placed .at-in)) ∙ rw last (frame-visible control s ok))
 
       pub end-past : halvesToVDisplay s * halfTicks s ≤ n
       end-past = omega (arith, mul-le-mul-right (halfTicks s) in-display, a .number)
@@ -117,9 +100,7 @@ module _ (control : ℕ) (s : Screen) (ok : Accepted control s) where
 
     -- the first tick of VDisplay has nothing before it
     pub first-seen : h ≡ halvesToVDisplay s → u ≡ 0 → g .seen .0 ≡ 0
-    first-seen p q =
-        let none : (halvesToVDisplay s - halvesToVDisplay s) / 2 ≡ 0 = omega arith in
-        shown-is ∙ simp (p, q, shown-lit s (halvesToVDisplay s) 0 (omega arith), line-first s (halvesToVDisplay s) 0 (omega (arith, ok .blank-even)), none, zero-mul) (omega arith)
+    first-seen p q = a .placed .seen-is ∙ rw (p, q) (visible-opens control s ok)
 
     -- and every other tick from there on a greater number
     pub first-only : (h ≡ halvesToVDisplay s → ⊥) ⊎ (u ≡ 0 → ⊥) → halvesToVDisplay s * halfTicks s ≤ n → halvesToVDisplay s * halfTicks s < n

@@ -13,16 +13,16 @@ use Rattle.base.specs.Count.{some, run}
 use Rattle.base.proofs.Run.{run-append, run-same}
 use Rattle.control.specs.Control.{forcedBlank, transferring, increment, pixelBits}
 use Rattle.units.specs.Parameters.{halfTicks, halvesToVDisplay, rowLength}
-use Rattle.limits.specs.Limits.{Accepted}
+use Rattle.screen.specs.Limits.{Accepted}
 use Rattle.registers.specs.declared.Registers.{Registers}
 use Rattle.memory.specs.Memory.{endsBeyond}
 use Rattle.signals.specs.Signals.{black}
 use Rattle.pixel.specs.Sums.{none, summed}
 use Rattle.pixel.proofs.Laws.{summed-join}
 use Rattle.lines.specs.Lines.{opens}
-use Rattle.counters.specs.Rows.{screen, visibleAt, shows, topUsed, taken, transferAt, heldAddress, place}
+use Rattle.generator.specs.Rows.{screen, visibleAt, shows, topUsed, taken, transferAt, heldAddress, place}
 use Rattle.generator.specs.Tick.{dotOf, dots, refuses20, cleared, sumsAfter, seenAfter}
-use Rattle.counters.specs.declared.Generator.{Generator}
+use Rattle.generator.specs.declared.Generator.{Generator}
 use Rattle.frame.specs.Frame.{rowAddress, addressAt, placeAt, dotFor, sumsTo}
 use Rattle.frame.proofs.Some.{some-same, some-four, some-and}
 use Rattle.frame.proofs.Place.{AtTick, rows-some, first-seen, first-only}
@@ -42,7 +42,7 @@ row-next n v p q z = go (v / n) (div-add-mod' v n)
         let d : (v - 1) / n ≡ k = div-eq-of-lt-le n (omega arith) (omega arith) in
         omega arith
 
-module _ (r : Registers) (ok : Accepted (r .control) (screen r)) (fits : r .top ≤ 0xFFFFFF) where
+module _ (r : Registers) (ok : Accepted (r .control) (screen r)) (fits : topUsed r ≤ 0xFFFFFF) where
   first-row : topUsed r ≡ rowAddress r 0
   unfolding rowAddress
   first-row = omega arith

@@ -1,6 +1,6 @@
 -- More laws of a test over numbers: two tests, four numbers at a time, one number more. Assumes nothing.
 use Prim.Native.Nat.{ℕ, zero, suc, _+_, _*_, _<_}
-use mathlib.Core.Bool.{Bool, true, false, cond, _&&_, _||_, true≢false}
+use mathlib.Core.Bool.{Bool, true, false, cond, _&&_, _||_, or-assoc, or-false}
 use mathlib.Core.Path.{_≡_, refl}
 use native.Mathlib.Numerals.{add-one}
 use native.Mathlib.Omega.{arith}
@@ -14,10 +14,6 @@ some-same p q (suc n) h =
     let a = some-same p q n (λ k l. h k (omega arith)) in
     let b = h n (omega arith) in
     cc
-
-or-assoc : (a b c : Bool) → ((a || b) || c) ≡ (a || (b || c))
-or-assoc true b c = refl
-or-assoc false b c = refl
 
 -- four at a time
 pub some-four : (p : ℕ → Bool) (n : ℕ) → some (λ v. some (λ k. p (4 * v + k)) 4) n ≡ some p (4 * n)
@@ -43,17 +39,4 @@ some-and false p (suc n) = rw (some-and false p n)
 pub some-on : (p : ℕ → Bool) (t : Bool) (n : ℕ) → (some p n || (t && p n)) ≡ some p (cond t (n + 1) n)
 unfolding some
 some-on p true n = rw (add-one n)
-some-on p false n = go (some p n)
-  where
-    go : (x : Bool) → (x || false) ≡ x
-    go true = refl
-    go false = refl
-
--- neither of two
-pub not-first : (a b : Bool) → (a || b) ≡ false → a ≡ false
-not-first true b e = absurd (true≢false e)
-not-first false b e = refl
-
-pub not-second : (a b : Bool) → (a || b) ≡ false → b ≡ false
-not-second true b e = absurd (true≢false e)
-not-second false b e = e
+some-on p false n = or-false (some p n)

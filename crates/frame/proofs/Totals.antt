@@ -5,11 +5,11 @@ use Prim.Native.Nat.{ℕ}
 use lib.ListN.{length}
 use Rattle.base.proofs.Run.{run-length}
 use Rattle.screen.specs.Totals.{frameTotals, framePixels, totalsOf}
-use Rattle.limits.proofs.Laws.{unrefused}
-use Rattle.screen.proofs.Laws.{totals-counted}
+use Rattle.screen.proofs.limits.Laws.{unrefused}
+use Rattle.screen.proofs.totals.Laws.{totals-counted}
 use Rattle.registers.specs.declared.Registers.{Registers}
-use Rattle.counters.specs.Rows.{screen}
-use Rattle.counters.specs.declared.Generator.{Generator}
+use Rattle.generator.specs.Rows.{screen}
+use Rattle.generator.specs.declared.Generator.{Generator}
 use Rattle.frame.specs.Demand.{Ready, Demand3, Counted}
 use Rattle.frame.proofs.Demand.{demand-3}
 

@@ -11,20 +11,23 @@ use Rattle.base.specs.Count.{some, run}
 use Rattle.base.proofs.Run.{run-append}
 use Rattle.control.specs.Control.{running}
 use Rattle.units.specs.Parameters.{halfTicks, halvesToVDisplay, rowLength}
-use Rattle.limits.specs.Limits.{Accepted}
+use Rattle.screen.specs.Limits.{Accepted}
 use Rattle.screen.specs.Totals.{frameTicks, frameVisible}
 use Rattle.units.specs.declared.Screen.{Screen}
 use Rattle.registers.specs.declared.Registers.{Registers}
 use Rattle.lines.specs.Lines.{closes}
-use Rattle.counters.specs.Rows.{screen, visibleAt, taken, heldAddress, asks}
+use Rattle.generator.specs.Rows.{screen, visibleAt, topUsed, taken, heldAddress, asks}
 use Rattle.generator.specs.Tick.{dots, refuses20, sumsAfter, seenAfter, stepWith, step, signalsWith, tickRefusal, tickOf, after}
-use Rattle.counters.specs.Sound.{Sound, Placed}
-use Rattle.counters.specs.declared.Generator.{Generator}
+use Rattle.generator.specs.Sound.{Sound, Placed}
+use Rattle.generator.specs.declared.Generator.{Generator}
+use Rattle.generator.proofs.FirstVisible.{frame-some}
+use Rattle.generator.proofs.Rows.{top-used-in}
 use Rattle.generator.proofs.Kept.{closes-before, closes-last, half-first, at-first}
 use Rattle.frame.specs.Frame.{AtStart, drawn, refusedWithin, rowAddress, addressAt, dotFor, sumsTo, pictureRefuses20, frameEnd, Whole}
-use Rattle.frame.proofs.Some.{some-on, not-first, not-second}
-use Rattle.frame.proofs.Place.{AtTick, tick-on, ticks-some, visible-some, at-start, seen-none, end-at, end-half, end-dark, end-seen, end-past, lit-past}
+use Rattle.frame.proofs.Some.{some-on}
+use Rattle.frame.proofs.Place.{AtTick, tick-on, ticks-some, at-start, seen-none, end-at, end-half, end-seen, end-past, lit-past}
 use Rattle.frame.proofs.Rows.{held-lit, held-row, taken-row, cleared-row, dots-run, sums-row, stops, refuses-lit, stops-some}
+use Rattle.base.proofs.Bools.{neither-holds}
 
 -- ticks that nothing refuses
 unfoldable steps : Registers → List ℕ → Generator → ℕ → Generator
@@ -38,7 +41,7 @@ pub record Before (r : Registers) (m : List ℕ) (n : ℕ) (g : Generator) : Typ
   pub sums : halvesToVDisplay (screen r) * halfTicks (screen r) < n → g .sums ≡ sumsTo r m (g .seen .0)
   pub asked : 0 < g .seen .0 → g .asked ≡ asks (r .control) (screen r) (g .seen .0 - 1)
 
-module _ (r : Registers) (m : List ℕ) (runs : running (r .control) ≡ true) (ok : Accepted (r .control) (screen r)) (fits : r .top ≤ 0xFFFFFF) where
+module _ (r : Registers) (m : List ℕ) (runs : running (r .control) ≡ true) (ok : Accepted (r .control) (screen r)) (fits : topUsed r ≤ 0xFFFFFF) where
   abbrev S : Screen
   S = screen r
 
@@ -92,13 +95,9 @@ module _ (r : Registers) (m : List ℕ) (runs : running (r .control) ≡ true) (
           asked = λ q. simp l (asked-on (simp l at q));
         }
 
-    dark-end : n + 1 ≡ F → visibleAt r g ≡ false
-    unfolding visibleAt
-    dark-end e = end-dark (r .control) S ok n g (i .at) e
-
     seen-end : n + 1 ≡ F → seenAfter r g ≡ frameVisible S
-    unfolding seenAfter
-    seen-end e = simp (dark-end e) (end-seen (r .control) S ok n g (i .at) e)
+    unfolding seenAfter visibleAt
+    seen-end e = end-seen (r .control) S ok n g (i .at) e
 
     -- the last one
     ends : n + 1 ≡ F → step r m g ≡ frameEnd r m
@@ -112,7 +111,7 @@ module _ (r : Registers) (m : List ℕ) (runs : running (r .control) ≡ true) (
         let e2 = at-first S (g .half .0) (g .at .0) u in
         let e3 = closes-last S (g .half .0) (g .at .0) (i .at .placed .half-in) (i .at .placed .at-in) (omega (arith, i .at .number)) in
         let e4 : heldAddress r g ≡ addressAt r (frameVisible S - 1) = rw v at (row-on p) in
-        let e5 : cond (visibleAt r g) (asks (r .control) S (g .seen .0)) (g .asked) ≡ asks (r .control) S (frameVisible S - 1) = rw v at (asked-on (rw v (visible-some (r .control) S ok))) in
+        let e5 : cond (visibleAt r g) (asks (r .control) S (g .seen .0)) (g .asked) ≡ asks (r .control) S (frameVisible S - 1) = rw v at (asked-on (rw v (frame-some (r .control) S ok))) in
         let e6 : sumsAfter r m g ≡ sumsTo r m (frameVisible S) = rw v at (sums-on p) in
         rw (e1, e2, e3, e4, e5, e6)
 
@@ -198,8 +197,8 @@ module _ (r : Registers) (m : List ℕ) (runs : running (r .control) ≡ true) (
     unfolding after steps some
     after-steps zero e = refl
     after-steps (suc n) e =
-        let a = after-steps n (not-first (some (λ k. refuses20 r m (steps r m g k)) n) _ e) in
-        ap (λ (x : Generator). tickOf r m x .next) a ∙ tick-next (steps r m g n) (not-second (some (λ k. refuses20 r m (steps r m g k)) n) _ e)
+        let a = after-steps n (neither-holds (some (λ k. refuses20 r m (steps r m g k)) n) _ e .0) in
+        ap (λ (x : Generator). tickOf r m x .next) a ∙ tick-next (steps r m g n) (neither-holds (some (λ k. refuses20 r m (steps r m g k)) n) _ e .1)
 
     -- and one is refused exactly where a step would be
     refused-steps : (n : ℕ) → refusedWithin r m g n ≡ some (λ k. refuses20 r m (steps r m g k)) n
@@ -217,7 +216,7 @@ module _ (r : Registers) (m : List ℕ) (runs : running (r .control) ≡ true) (
       -- none of its ticks is
       down : (n : ℕ) → some (λ k. refuses20 r m (steps r m g k)) (suc n) ≡ false → some (λ k. refuses20 r m (steps r m g k)) n ≡ false
       unfolding some
-      down n e = not-first (some (λ k. refuses20 r m (steps r m g k)) n) _ e
+      down n e = neither-holds (some (λ k. refuses20 r m (steps r m g k)) n) _ e .0
 
       clear : (k n : ℕ) → n + k ≡ F → some (λ k. refuses20 r m (steps r m g k)) n ≡ false
       clear zero n e = let q : n ≡ F = omega arith in rw q (frame-stops ∙ z)
@@ -228,7 +227,7 @@ module _ (r : Registers) (m : List ℕ) (runs : running (r .control) ≡ true) (
 
       pub unrefused : (n : ℕ) → n < F → refuses20 r m (after r m g n) ≡ false
       unfolding some
-      unrefused n p = rw (same n (omega arith)) (not-second (some (λ k. refuses20 r m (steps r m g k)) n) _ (clear (F - suc n) (suc n) (omega arith)))
+      unrefused n p = rw (same n (omega arith)) (neither-holds (some (λ k. refuses20 r m (steps r m g k)) n) _ (clear (F - suc n) (suc n) (omega arith)) .1)
 
       -- where the generator stands before each of its ticks
       pub before-tick : (n : ℕ) → n < F → Before r m n (after r m g n)
@@ -279,4 +278,4 @@ module _ (r : Registers) (m : List ℕ) (runs : running (r .control) ≡ true) (
 
 -- A WHOLE FRAME IS ITS TICKS, in every mode
 pub whole : (r : Registers) (m : List ℕ) (g : Generator) → Sound r g → running (r .control) ≡ true → AtStart g → Whole r m g
-whole r m g z on b = frame-is r m on (z .accepted on) (z .held .top) g (z .placed on) b
+whole r m g z on b = frame-is r m on (z .accepted on) (top-used-in r (z .widths)) g (z .placed on) b

@@ -9,13 +9,13 @@ use Rattle.base.specs.Count.{count, run}
 use Rattle.control.specs.Control.{running, forcedBlank, transferring, increment, pixelBits}
 use Rattle.units.specs.Parameters.{rowLength}
 use Rattle.screen.specs.Totals.{frameTicks, frameVisible, frameTransfers, framePixels}
-use Rattle.screen.specs.declared.Totals.{Totals}
+use Rattle.screen.specs.declared.totals.Totals.{Totals}
 use Rattle.registers.specs.declared.Registers.{Registers}
 use Rattle.pixel.specs.Dot.{dotAt}
-use Rattle.counters.specs.Rows.{screen, topUsed, heldAddress, rowNumber, place}
+use Rattle.generator.specs.Rows.{screen, topUsed, heldAddress, rowNumber, place}
 use Rattle.generator.specs.Tick.{positionUsed, tickOf, after}
-use Rattle.counters.specs.Sound.{Sound}
-use Rattle.counters.specs.declared.Generator.{Generator}
+use Rattle.generator.specs.Sound.{Sound}
+use Rattle.generator.specs.declared.Generator.{Generator}
 use Rattle.generator.specs.declared.Ticked.{Ticked}
 use Rattle.frame.specs.Frame.{AtStart, drawn, frameEnd}
 
@@ -62,7 +62,7 @@ pub record Ready (r : Registers) (m : List ℕ) (g : Generator) : Type 0 where
 -- the frame's ticks are all answered; it is back at its start after exactly its ticks; its visible ticks and transfers are counted, its
 -- addresses and places listed, its pixels told one by one, and the generator after it
 pub record Demand3 (r : Registers) (m : List ℕ) (g : Generator) : Type 0 where
-  pub answered : (k : ℕ) → k < frameTicks (screen r) → answer r m g k .refusal ≡ 0
+  pub unrefused : (k : ℕ) → k < frameTicks (screen r) → answer r m g k .refusal ≡ 0
   pub some : 0 < frameTicks (screen r)
   pub returns : AtStart (after r m g (frameTicks (screen r)))
   pub not-before : (k : ℕ) → 0 < k → k < frameTicks (screen r) → AtStart (after r m g k) → ⊥

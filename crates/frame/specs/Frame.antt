@@ -15,9 +15,9 @@ use Rattle.signals.specs.Signals.{black}
 use Rattle.pixel.specs.Sums.{none, summed}
 use Rattle.signals.specs.declared.Dot.{Dot}
 use Rattle.pixel.specs.declared.Sums.{Sums}
-use Rattle.counters.specs.Rows.{screen, visibleAt, topUsed, place, asks}
+use Rattle.generator.specs.Rows.{screen, visibleAt, topUsed, place, asks}
 use Rattle.generator.specs.Tick.{dotOf, tickOf, after}
-use Rattle.counters.specs.declared.Generator.{Generator}
+use Rattle.generator.specs.declared.Generator.{Generator}
 
 -- before the first tick of a frame
 pub record AtStart (g : Generator) : Type 0 where

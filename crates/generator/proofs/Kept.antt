@@ -1,6 +1,6 @@
 -- The one condition is kept by every tick, refused or not, and holds of a fresh generator on every screen that may start.
 -- Assumes nothing.
-use Prim.Native.Nat.{ℕ, _+_, _≤_, _<_}
+use Prim.Native.Nat.{ℕ, _+_, _^_, _≤_, _<_}
 use mathlib.Core.Bool.{Bool, true, false, cond, _&&_}
 use mathlib.Core.List.{List}
 use mathlib.Core.Logic.{⊎-elim}
@@ -8,22 +8,28 @@ use mathlib.Core.Path.{_≡_, refl, sym}
 use native.Mathlib.Nat.{mul-le-mul-right, zero-mul, add-zero}
 use native.Mathlib.Omega.{arith}
 use borrow.Author.Tests.{lt-ltb, le-ltb, le-leb, lt-leb}
-use lib.Dec.{leb, eqb}
+use lib.Dec.{ltb, leb, eqb}
 use Rattle.base.specs.Count.{count}
+use Rattle.base.specs.Sum.{rolled}
+use Rattle.control.specs.Control.{increment}
 use Rattle.units.specs.Parameters.{halfTicks, halvesInFrame}
-use Rattle.limits.specs.Limits.{Accepted}
+use Rattle.screen.specs.Limits.{Accepted}
 use Rattle.screen.specs.Totals.{frameTicks}
 use Rattle.units.specs.declared.Screen.{Screen}
+use Rattle.registers.specs.File.{InWidths}
 use Rattle.registers.specs.declared.Registers.{Registers}
+use Rattle.pixel.proofs.Laws.{none-below, where-below}
 use Rattle.pixel.specs.declared.Sums.{Sums}
-use Rattle.lines.specs.Lines.{closes, nextHalf, nextAt, tickNumber}
-use Rattle.counters.specs.Rows.{screen, visibleAt}
-use Rattle.counters.specs.Counters.{fresh}
-use Rattle.generator.specs.Tick.{sumsAfter, seenAfter, stepWith, tickRefusal, tickOf}
-use Rattle.counters.specs.Sound.{shownBefore, Placed, Sound}
-use Rattle.counters.specs.declared.Generator.{Generator}
+use Rattle.lines.specs.Lines.{opens, closes, nextHalf, nextAt, tickNumber, visibleBefore}
+use Rattle.generator.specs.Rows.{screen, visibleAt, shows, topUsed, taken, transferAt, heldAddress}
+use Rattle.generator.specs.Counters.{fresh}
+use Rattle.generator.specs.Tick.{dots, cleared, sumsAfter, seenAfter, stepWith, tickRefusal, tickOf}
+use Rattle.generator.specs.Sound.{Placed, Rolled, Sound}
+use Rattle.generator.specs.declared.Generator.{Generator}
 use Rattle.generator.specs.declared.Ticked.{Ticked}
-use Rattle.counters.proofs.Shown.{below, shown-next}
+use Rattle.generator.proofs.VisibleBefore.{visible-next}
+use Rattle.generator.proofs.Rows.{top-used-in}
+use Rattle.base.proofs.Bools.{below}
 
 module _ (s : Screen) (h u : ℕ) where
   -- the next tick of the half line
@@ -117,9 +123,9 @@ module _ (s : Screen) (h u : ℕ) where
     pub closes-last : tickNumber s h u + 1 ≡ frameTicks s → closes s h u ≡ true
     closes-last e = frame-closes (last-at e) (last-half e)
 
-nothing-shown : (s : Screen) → shownBefore s 0 ≡ 0
-unfolding shownBefore count
-nothing-shown s = refl
+none-visible : (s : Screen) → visibleBefore s 0 ≡ 0
+unfolding visibleBefore count
+none-visible s = refl
 
 module _ (r : Registers) (ok : Accepted (r .control) (screen r)) where
   -- a step keeps the place, past the frame's end too
@@ -129,9 +135,9 @@ module _ (r : Registers) (ok : Accepted (r .control) (screen r)) where
       let n = next (screen r) (g .half .0) (g .at .0) (p .half-in) (p .at-in) in
       record { half-in = n .half-in; at-in = n .at-in; seen-is = rw (n .number) (go (closes (screen r) (g .half .0) (g .at .0))) }
     where
-      go : (c : Bool) → cond c 0 (cond (visibleAt r g) (g .seen .0 + 1) (g .seen .0)) ≡ shownBefore (screen r) (cond c 0 (tickNumber (screen r) (g .half .0) (g .at .0) + 1))
-      go true = sym (nothing-shown (screen r))
-      go false = rw (p .seen-is) (sym (shown-next (r .control) (screen r) ok (g .half .0) (g .at .0) (p .at-in)))
+      go : (c : Bool) → cond c 0 (cond (visibleAt r g) (g .seen .0 + 1) (g .seen .0)) ≡ visibleBefore (screen r) (cond c 0 (tickNumber (screen r) (g .half .0) (g .at .0) + 1))
+      go true = sym (none-visible (screen r))
+      go false = rw (p .seen-is) (sym (visible-next (r .control) (screen r) ok (g .half .0) (g .at .0) (p .at-in)))
 
   either : (x : Bool) (a b : Ticked) → Placed (screen r) (a .next) → Placed (screen r) (b .next) → Placed (screen r) (cond x a b .next)
   either true a b p q = p
@@ -147,10 +153,46 @@ module _ (r : Registers) (ok : Accepted (r .control) (screen r)) where
       record {
         half-in = omega (arith, ok .bounded .vpreequalise .low);
         at-in = omega (arith, ok .half-holds);
-        seen-is = rw (zero-mul, add-zero) (sym (nothing-shown (screen r)));
+        seen-is = rw (zero-mul, add-zero) (sym (none-visible (screen r)));
       }
+
+pub fresh-rolled : Rolled fresh
+fresh-rolled = record { held = omega arith; sums = none-below }
+
+module _ (r : Registers) (widths : InWidths r) where
+  -- the address held is top, the one before, or one rolled over
+  held-rolled : (g : Generator) → g .held < 2 ^ 24 → heldAddress r g < 2 ^ 24
+  unfolding heldAddress taken
+  held-rolled g p = go (transferAt r g && ltb 0 (g .seen .0)) (opens (screen r) (g .half .0) (g .at .0))
+    where
+      top : (o : Bool) → cond o (topUsed r) (g .held) < 2 ^ 24
+      top true = omega (arith, top-used-in r widths)
+      top false = p
+
+      go : (t o : Bool) → cond t (rolled (cond o (topUsed r) (g .held)) (increment (r .control))) (cond o (topUsed r) (g .held)) < 2 ^ 24
+      go true o = omega arith
+      go false o = top o
+
+  step-rolled : (m : List ℕ) (g : Generator) → Rolled g → Rolled (stepWith r g (sumsAfter r m g))
+  unfolding stepWith sumsAfter cleared
+  step-rolled m g p =
+      record { held = held-rolled g (p .held); sums = where-below (opens (screen r) (g .half .0) (g .at .0)) (shows r g) (g .sums) (dots r m g) (p .sums) }
+
+  either-rolled : (x : Bool) (a b : Ticked) → Rolled (a .next) → Rolled (b .next) → Rolled (cond x a b .next)
+  either-rolled true a b p q = p
+  either-rolled false a b p q = q
+
+  pub tick-rolled : (m : List ℕ) (g : Generator) → Rolled g → Rolled (tickOf r m g .next)
+  unfolding tickOf
+  tick-rolled m g p = either-rolled (eqb (tickRefusal r m g) 0) _ _ (step-rolled m g p) p
 
 -- THE ONE CONDITION IS KEPT by a tick
 pub tick-sound : (r : Registers) (m : List ℕ) (g : Generator) → Sound r g → Sound r (tickOf r m g .next)
 tick-sound r m g z =
-    record { held = z .held; in-build = z .in-build; accepted = z .accepted; placed = λ on. tick-placed r (z .accepted on) m g (z .placed on) }
+    record {
+      widths = z .widths;
+      in-build = z .in-build;
+      rolled = tick-rolled r (z .widths) m g (z .rolled);
+      accepted = z .accepted;
+      placed = λ on. tick-placed r (z .accepted on) m g (z .placed on);
+    }

@@ -1,4 +1,6 @@
 -- Laws of the generator's rules.
-pub mod Stood
+pub mod Rows
+pub mod VisibleBefore
+pub mod FirstVisible
 pub mod Puts
 pub mod Kept

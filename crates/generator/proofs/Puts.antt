@@ -1,8 +1,8 @@
 -- What the code puts out is what the rules say. Assumes nothing.
 use Prim.Native.Nat.{ℕ, zero, suc, _+_, _*_, _/_, _%_, _^_, _≤_, _<_}
-use mathlib.Core.Bool.{Bool, true, false, not, cond, _&&_, _||_}
+use mathlib.Core.Bool.{Bool, true, false, not, cond, _&&_}
 use mathlib.Core.List.{List, [], _∷_}
-use mathlib.Core.Path.{_≡_, refl, sym, _∙_}
+use mathlib.Core.Path.{_≡_, refl, sym, ap, _∙_}
 use native.Mathlib.Nat.{mod-lt}
 use native.Mathlib.Omega.{arith}
 use Rattle.base.specs.Count.{count, some, run}
@@ -17,34 +17,34 @@ use Rattle.pixel.specs.Dot.{dotAt}
 use Rattle.pixel.specs.Sums.{clearedAt, summedWhere}
 use Rattle.pixel.specs.declared.Sums.{Sums}
 use Rattle.memory.proofs.Laws.{ends-beyond-later}
-use Rattle.counters.specs.Rows.{screen, visibleAt, shows, heldAddress, place}
+use Rattle.generator.specs.Rows.{screen, visibleAt, shows, heldAddress, place}
 use Rattle.generator.specs.Tick.{dotOf, dots, refuses20, cleared, sumsAfter, seenAfter, stepWith, signalsWith, signals, tickRefusal, tickOf}
-use Rattle.stand.specs.Stand.{Runs}
-use Rattle.generator.specs.Stands.{Stands}
-use Rattle.counters.specs.declared.Generator.{Generator}
-use Rattle.stand.specs.declared.Stand.{Stand}
+use Rattle.generator.specs.Stand.{Runs, Stands}
+use Rattle.generator.specs.declared.Generator.{Generator}
+use Rattle.generator.specs.declared.stand.Stand.{Stand}
 use Rattle.units.specs.Parameters.{halfTicks}
-use Rattle.limits.proofs.Laws.{narrow}
-use Rattle.lines.specs.Lines.{visible, tickNumber, momentOf}
-use Rattle.counters.specs.Sound.{shownBefore}
-use Rattle.generator.proofs.Stood.{moment-opens}
-use Rattle.stand.proofs.Bounds.{lines-in}
-use Rattle.counters.proofs.Shown.{shown-line}
-
-or-true : (a b : Bool) → (a ≡ true → b ≡ true) → (a || b) ≡ b
-or-true true b h = sym (h refl)
-or-true false b h = refl
+use Rattle.screen.proofs.limits.Laws.{narrow}
+use Rattle.lines.specs.Lines.{visible, opens, tickNumber, visibleBefore, momentOf}
+use Rattle.lines.specs.declared.Moment.{Moment}
+use Rattle.generator.proofs.stand.Bounds.{lines-in}
+use Rattle.generator.proofs.VisibleBefore.{visible-line}
+use Rattle.base.proofs.Bools.{or-second}
 
 -- where a test that passes goes on passing, one of a run of numbers passes exactly where the last does
 some-last : (test : ℕ → Bool) → ((k : ℕ) → test k ≡ true → test (suc k) ≡ true) → (n : ℕ) → some test (suc n) ≡ test n
 unfolding some
 some-last test on zero = refl
-some-last test on (suc n) = rw (some-last test on n) (or-true (test n) (test (suc n)) (on n))
+some-last test on (suc n) = rw (some-last test on n) (or-second (test n) (test (suc n)) (on n))
 
 -- the four places of a tick are a run
 pub place-run : (r : Registers) (a v k : ℕ) → place r a v k ≡ place r a v 0 + k
 unfolding place
 place-run r a v k = omega arith
+
+-- what a tick's moment says of it
+moment-opens : (r : Registers) (g : Generator) (t : Stand) → Stands r g t → t .moment .opens ≡ opens (screen r) (g .half .0) (g .at .0)
+unfolding momentOf
+moment-opens r g t st = ap (λ (x : Moment). x .opens) (st .moment-is)
 
 module _ (r : Registers) (m : List ℕ) (g : Generator) (t : Stand) (st : Stands r g t) where
   place-at : (k : ℕ) → place r (heldAddress r g) (g .seen .0) k ≡ t .place + k
@@ -84,7 +84,7 @@ next-by r g t st sums asked more seen em es ek = rw (es, ek, em, st .asking-is, 
 
 -- every signal, from what its parts answer
 pub signals-by : (r : Registers) (g : Generator) (t : Stand) → Stands r g t → (four : List Dot) (on : Bool) (address : ℕ) → on ≡ transferring (r .control) → address ≡ cond (on && t .transfer) (t .held) 0 →
-    record { sync = not (t .moment .low); vsync = not (t .moment .vsync); inactive = not (t .moment .vdisplay); blank = not (t .shows); request = t .request; transfer = on && t .transfer; address = address; dots = four } ≡ signalsWith r g four
+    record { sync = not (t .moment .low); vsync = not (t .moment .vsyncing); inactive = not (t .moment .vdisplaying); blank = not (t .shows); request = t .request; transfer = on && t .transfer; address = address; dots = four } ≡ signalsWith r g four
 unfolding signalsWith momentOf
 signals-by r g t st four on address eo ea = rw (ea, eo, st .moment-is, st .shows-is, st .request-is, st .transfer-is, st .held-is)
 
@@ -99,7 +99,7 @@ module _ (r : Registers) (g : Generator) (k : Runs r g) (s : Screen) (e : s ≡ 
   pub line-in : g .seen .0 / s .display .0 < 2 ^ 32
   line-in =
       rw e (rw (k .placed .seen-is)
-      (omega (arith, shown-line (r .control) (screen r) (k .accepted) (g .half .0) (g .at .0) (k .placed .at-in), k .placed .half-in, k .accepted .bounded)))
+      (omega (arith, visible-line (r .control) (screen r) (k .accepted) (g .half .0) (g .at .0) (k .placed .at-in), k .placed .half-in, k .accepted .bounded)))
 
 one-more : (b : Bool) (c n : ℕ) → c ≤ n → cond b (c + 1) c ≤ suc n
 one-more true c n p = omega arith
@@ -112,7 +112,7 @@ count-most test (suc n) = one-more (test n) (count test n) n (count-most test n)
 
 -- the visible ticks counted fit with room to spare
 pub seen-in : (r : Registers) (g : Generator) → Runs r g → g .seen .0 < 2 ^ 60
-unfolding shownBefore
+unfolding visibleBefore
 seen-in r g k =
     let s = screen r in
     let b = narrow s (k .accepted .bounded) in

@@ -1,3 +1,6 @@
--- The rules of a tick: what goes out, and the generator after it.
+-- The generator: the rules of its rows, its beginning, the one condition, and one tick; then where a tick stands, as the code holds it.
+pub mod Rows
+pub mod Counters
+pub mod Sound
 pub mod Tick
-pub mod Stands
+pub mod Stand

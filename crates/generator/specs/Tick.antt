@@ -15,8 +15,8 @@ use Rattle.pixel.specs.Dot.{dotAt}
 use Rattle.pixel.specs.Sums.{clearedAt, summedWhere}
 use Rattle.pixel.specs.declared.Sums.{Sums}
 use Rattle.lines.specs.Lines.{period, isVSync, isVDisplay, syncLow, opens, closes, nextHalf, nextAt}
-use Rattle.counters.specs.Rows.{screen, visibleAt, shows, transferAt, heldAddress, place, asks, requestAt}
-use Rattle.counters.specs.declared.Generator.{Generator}
+use Rattle.generator.specs.Rows.{screen, visibleAt, shows, transferAt, heldAddress, place, asks, requestAt}
+use Rattle.generator.specs.declared.Generator.{Generator}
 use Rattle.generator.specs.declared.Ticked.{Ticked}
 
 -- the cursor position that the colours use: the written one

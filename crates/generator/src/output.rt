@@ -1,16 +1,15 @@
 // What a tick puts out (01, "Lines and frames", "Rows and pixels"), and the generator that it leaves.
 ghost use mathlib.Core.Path.{_≡_};
 ghost use Prim.Native.Nat.{_<_};
-ghost use Rattle.counters.specs.Rows.{heldAddress};
+ghost use Rattle.generator.specs.Rows.{heldAddress};
 ghost use Rattle.generator.specs.Tick.{dotOf, dots, refuses20, stepWith, signalsWith};
-ghost use Rattle.stand.specs.Stand.{Runs};
-ghost use Rattle.generator.specs.Stands.{Stands};
-use counters::Generator;
+ghost use Rattle.generator.specs.Stand.{Runs, Stands};
+use crate::Generator;
+use crate::stand::Stand;
 use pixel::Sums;
 use registers::Registers;
 use signals::Dot;
 use signals::Signals;
-use stand::Stand;
 use units::HalfLines;
 use units::ScreenUnits;
 
@@ -84,8 +83,8 @@ pub fn signals_of(r: Registers, g: Generator, t: Stand, four: [Dot; 4]) -> Signa
     let transfer = control::is_transferring(r.control) & t.transfer;
     Signals {
         sync: !m.low,
-        vsync: !m.vsync,
-        inactive: !m.vdisplay,
+        vsync: !m.vsyncing,
+        inactive: !m.vdisplaying,
         blank: !t.shows,
         request: t.request,
         transfer,

@@ -1,70 +1,145 @@
-// Lines of a script that comes in pieces: bytes up to LF, with a CR just before it.
+// Standard input, line by line: bytes up to LF, with a CR just before it.
 ghost use mathlib.Core.Path.{_≡_};
-ghost use mathlib.Core.Bool.{cond};
-ghost use lib.Dec.{ltb};
-ghost use Prim.Native.Nat.{_+_, _-_, _≤_};
-ghost use lib.ListN.{length};
-ghost use Rattle.input.specs.Input.{takenLine, takenRoom, lineOf};
+ghost use Prim.Native.Nat.{_-_, _≤_};
+ghost use lib.ListN.{getD, take};
+ghost use Rattle.input.specs.Input.{takenLine, takenRoom, lineOf, firstReader, nextFrom, nextCount, isLine, oneMore};
+use room::bytes::one_less;
 
-// The next byte of the piece, the bytes held of a line, and whether the line has ended. Past the longest line bytes are counted no more.
-pub struct Held {
+// A piece of the input, and a line with its end and one byte more: so a line of more than 1,000 bytes is seen.
+pub const PIECE: usize = 65536;
+
+pub const LINE: usize = 1002;
+
+// The next byte of the piece, the bytes of the line so far, and whether it has ended. Past the longest line bytes are counted no more.
+pub struct Taken {
     pub at: usize,
     pub length: usize,
     pub ended: bool,
 }
 
-// Takes a piece's bytes from `from` on, up to a line's end, behind those held.
-pub fn take_line(piece: &[u8], from: usize, line: &mut [u8], held: usize) -> Held
-    ensures on { λ r. ⌜ length (now (piece .entry)) - r .at ≤ length (now (piece .entry)) - (from + 1) ⌝ }
-    ensures room { λ _. ⌜ length (now (line .exit)) ≡ length (now (line .entry)) ⌝ }
-    ensures taken { λ r. ⌜ r ≡ takenLine (now (piece .entry)) from (now (line .entry)) held ⌝ }
-    ensures bytes { λ _. ⌜ now (line .exit) ≡ takenRoom (now (piece .entry)) from (now (line .entry)) held ⌝ }
+// The bytes in the piece, what was taken of it, and the turns left: none past the input's end. A loop over the input has to end, and nothing
+// says that an input does: it counts from a number that no input uses up.
+pub struct Reader {
+    pub size: usize,
+    pub taken: Taken,
+    pub turns: u64,
+}
+
+// Before the input's first byte.
+pub fn begin() -> Reader
+    ensures reader { λ r. ⌜ r ≡ firstReader ⌝ }
+{
+    let taken = Taken {
+        at: 0,
+        length: 0,
+        ended: false,
+    };
+    Reader {
+        size: 0,
+        taken,
+        turns: u64::MAX,
+    }
+}
+
+// One turn less; none where no more may come.
+fn turns_after(turns: u64, more: bool) -> u64
+    ensures fewer { λ r. ⌜ r ≤ turns - 1 ⌝ }
+{
+    if more {
+        if 0 < turns {
+            return turns - 1;
+        }
+    }
+    0
+}
+
+// Takes more of a line out of the piece, which is read anew where it is used up.
+pub fn next(r: Reader, piece: &mut [u8; PIECE], line: &mut [u8; LINE]) -> Reader
+    ensures fewer { λ n. ⌜ n .turns ≤ r .turns - 1 ⌝ }
+    ensures taken { λ n. ⌜ n .taken ≡ takenLine (take (n .size) (now (piece .exit))) (nextFrom r) (now (line .entry)) (nextCount r) ⌝ }
+    ensures bytes { λ n. ⌜ now (line .exit) ≡ takenRoom (take (n .size) (now (piece .exit))) (nextFrom r) (now (line .entry)) (nextCount r) ⌝ }
+{
+    let before = r.taken;
+    let length = base::choose(before.ended, 0, before.length as u64) as usize;
+    if before.at < r.size {
+        let taken = take_line(room::lent(piece, r.size), before.at, line, length);
+        return Reader {
+            size: r.size,
+            taken,
+            turns: turns_after(r.turns, true),
+        };
+    }
+    let got = libc::read(0, piece);
+    let size = io::count(got, piece);
+    let taken = take_line(room::lent(piece, size), 0, line, length);
+    Reader {
+        size,
+        taken,
+        turns: turns_after(r.turns, 0 < size),
+    }
+}
+
+// A whole line has been taken: the last may lack its end.
+pub fn is_line(r: Reader) -> bool
+    ensures whole { λ b. ⌜ b ≡ isLine r ⌝ }
+{
+    let taken = r.taken;
+    taken.ended | ((r.turns == 0) & (0 < taken.length))
+}
+
+// Takes a piece's bytes from `from` on, up to a line's end, behind the first `count` of the line.
+fn take_line(piece: &[u8], from: usize, line: &mut [u8], count: usize) -> Taken
+    ensures taken { λ r. ⌜ r ≡ takenLine (now (piece .entry)) from (now (line .entry)) count ⌝ }
+    ensures bytes { λ _. ⌜ now (line .exit) ≡ takenRoom (now (piece .entry)) from (now (line .entry)) count ⌝ }
 {
     let mut at = from;
-    let mut kept = held;
+    let mut length = count;
     while at < piece.len() {
         let byte = piece[at];
         at += 1;
         if byte == b'\n' {
-            return Held {
+            return Taken {
                 at,
-                length: kept,
+                length,
                 ended: true,
             };
         }
-        if kept < line.len() {
-            line[kept] = byte;
-            kept += 1;
+        if length < line.len() {
+            line[length] = byte;
+            length += 1;
         }
     }
-    Held {
+    Taken {
         at,
-        length: kept,
+        length,
         ended: false,
     }
 }
 
-// The bytes of a line: those held, less a CR just before its end.
-pub fn line_of(line: &[u8], held: usize, ended: bool) -> &[u8]
-    ensures within { λ r. ⌜ length (now r) ≤ length (now (line .entry)) ⌝ }
-    ensures bytes { λ r. ⌜ now r ≡ lineOf (now (line .entry)) held ended ⌝ }
+// A byte of a line; past its room 0.
+fn byte_at(line: &[u8], i: usize) -> u8
+    ensures byte { λ r. ⌜ r ≡ getD (now (line .entry)) i 0 ⌝ }
 {
-    if line.len() < held {
-        return &line[..];
+    if i < line.len() {
+        return line[i];
     }
-    if held == 0 {
-        return &line[..held];
-    }
-    let last = held - 1;
-    if ended & (line[last] == b'\r') {
-        return &line[..last];
-    }
-    &line[..held]
+    0
+}
+
+// The line that has been taken, less a CR just before its end.
+pub fn line_of(r: Reader, line: &[u8; LINE]) -> &[u8]
+    ensures bytes { λ l. ⌜ now l ≡ lineOf (now (line .entry)) (r .taken .length) (r .taken .ended) ⌝ }
+{
+    let taken = r.taken;
+    let last = one_less(taken.length);
+    let returned = taken.ended & (byte_at(line, last) == b'\r');
+    let size = base::choose(returned, last as u64, taken.length as u64);
+    room::lent(line, size as usize)
 }
 
 // One line more; the count stops at the largest that 64 bits hold.
 pub fn one_more(lines: u64) -> u64
-    ensures count { λ r. ⌜ r ≡ cond (ltb lines 0xFFFFFFFFFFFFFFFF) (lines + 1) lines ⌝ }
+    ensures count { λ r. ⌜ r ≡ oneMore lines ⌝ }
 {
     if lines < u64::MAX {
         return lines + 1;

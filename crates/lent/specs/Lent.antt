@@ -2,5 +2,5 @@
 use Rattle.generator.specs.declared.Ticked.{Ticked}
 use Rattle.lent.specs.declared.Answer.{Answer}
 
-abbrev pub answered : Ticked → Answer
-answered t = record { refusal = t .refusal; signals = t .signals }
+abbrev pub answerOf : Ticked → Answer
+answerOf t = record { refusal = t .refusal; signals = t .signals }

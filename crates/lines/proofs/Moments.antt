@@ -11,7 +11,7 @@ use lib.Dec.{ltb, leb, eqb}
 use lib.ListN.{getD}
 use Rattle.units.specs.Parameters.{screenOf, halfTicks, displayFrom, halvesToVBlank, halvesToVDisplay, halvesInFrame}
 use Rattle.units.specs.declared.Screen.{Screen}
-use Rattle.lines.specs.Lines.{period, isVSync, isVDisplay, secondHalf, inLine, visible, lowIn, opens, closes, nextHalf, nextAt, momentOf}
+use Rattle.lines.specs.Lines.{period, isVSync, isVDisplay, lineFrom, secondHalf, inLine, visible, lowIn, opens, closes, nextHalf, nextAt, momentOf}
 use Rattle.lines.specs.declared.Period.{Period}
 use Rattle.lines.specs.declared.Period.the-variants.{PreEqualise, VSync, PostEqualise, VBlank, VDisplay}
 
@@ -43,6 +43,11 @@ narrow params f s e =
       linetime = f 10 .fits;
     })
 
+-- where the code counts lines from
+pub line-from : (s : Screen) → halvesToVBlank s ≡ lineFrom s
+unfolding lineFrom
+line-from s = refl
+
 -- two of the periods by their ends
 module _ (s : Screen) (half : ℕ) where
   in-vsync : (leb (s .vpreequalise .0) half && ltb half (s .vpreequalise .0 + s .vsync .0)) ≡ isVSync (period s half)
@@ -69,15 +74,16 @@ module _ (s : Screen) (half : ℕ) where
       go false ea false eb false ec false ed = le-leb (halvesToVDisplay s) half (ltb-false _ _ ed)
 
 module _ (s : Screen) (plain : Bool) (half at : ℕ)
-    (tick : ℕ) (tick-is : tick ≡ cond (eqb ((half + halvesToVBlank s) % 2) 1) (halfTicks s + at) at)
+    (from : ℕ) (from-is : from ≡ lineFrom s)
+    (tick : ℕ) (tick-is : tick ≡ cond (eqb ((half + from) % 2) 1) (halfTicks s + at) at)
     (p : Period)
     (period-is : p ≡ cond (ltb half (s .vpreequalise .0)) PreEqualise (cond (ltb half (s .vpreequalise .0 + s .vsync .0)) VSync (cond (ltb half (halvesToVBlank s)) PostEqualise (cond (ltb half (halvesToVDisplay s)) VBlank VDisplay))))
     (next : ℕ) (next-is : next ≡ cond (ltb (half + 1) (halvesInFrame s)) (half + 1) 0)
     (low : Bool) (low-is : low ≡ lowIn plain (s .halfsync .0) (s .broadpulse .0) p at tick)
     (later after : ℕ) (later-is : later ≡ cond (ltb (at + 1) (halfTicks s)) half next) (after-is : after ≡ cond (ltb (at + 1) (halfTicks s)) (at + 1) 0) where
   pub moment-by : (params : List ℕ) → s ≡ screenOf params → record {
-    vsync = leb (s .vpreequalise .0) half && ltb half (s .vpreequalise .0 + s .vsync .0);
-    vdisplay = leb (halvesToVDisplay s) half;
+    vsyncing = leb (s .vpreequalise .0) half && ltb half (s .vpreequalise .0 + s .vsync .0);
+    vdisplaying = leb (halvesToVDisplay s) half;
     visible = leb (halvesToVDisplay s) half && (leb (displayFrom s) tick && ltb tick (displayFrom s + s .display .0));
     low = low;
     opens = eqb half (halvesToVDisplay s) && eqb at 0;
@@ -86,4 +92,4 @@ module _ (s : Screen) (plain : Bool) (half at : ℕ)
     at = after;
   } ≡ momentOf (screenOf params) plain half at
   unfolding period secondHalf inLine visible opens closes nextHalf nextAt momentOf
-  moment-by params e = rw (after-is, later-is, low-is, next-is, in-vsync s half, in-vdisplay s half, period-is, tick-is, e)
+  moment-by params e = rw (after-is, later-is, low-is, next-is, in-vsync s half, in-vdisplay s half, period-is, tick-is, from-is, e)

@@ -1,8 +1,9 @@
 -- Lines and frames (01, the section of that name): where a tick stands. s: the screen, half: the half line's number in the frame,
 -- at: the tick's number in the half line. Assumes nothing.
-use Prim.Native.Nat.{ℕ, _+_, _*_, _%_}
+use Prim.Native.Nat.{ℕ, _+_, _-_, _*_, _/_, _%_, min}
 use mathlib.Core.Bool.{Bool, true, false, not, cond, _&&_, _||_}
 use lib.Dec.{ltb, leb, eqb}
+use Rattle.base.specs.Count.{count}
 use Rattle.units.specs.Parameters.{halfTicks, displayFrom, halvesToVBlank, halvesToVDisplay, halvesInFrame}
 use Rattle.units.specs.declared.Screen.{Screen}
 use Rattle.lines.specs.declared.Period.{Period}
@@ -32,9 +33,14 @@ isVDisplay PostEqualise = false
 isVDisplay VBlank = false
 isVDisplay VDisplay = true
 
--- full lines are two half lines each, counted from VBlank's first: added, since the parity of a sum is that of the difference
-abbrev pub lineFrom : Screen → ℕ
+-- full lines are two half lines each, counted from VBlank's first: the half lines before it. They are added, since the parity of a sum is
+-- that of the difference
+unfoldable pub lineFrom : Screen → ℕ
 lineFrom s = halvesToVBlank s
+
+-- the full line that a half line is part of, by a number that goes up by one from line to line
+unfoldable pub lineOf : Screen → ℕ → ℕ
+lineOf s half = (half + lineFrom s) / 2
 
 -- the half line is the second half of its line (asked in VBlank and VDisplay only)
 unfoldable pub secondHalf : Screen → ℕ → Bool
@@ -51,6 +57,10 @@ inDisplay s tick = leb (displayFrom s) tick && ltb tick (displayFrom s + s .disp
 -- a visible tick is a Display tick inside VDisplay
 unfoldable pub visible : Screen → ℕ → ℕ → Bool
 visible s half at = isVDisplay (period s half) && inDisplay s (inLine s half at)
+
+-- Display ticks of the first displayed line that lie before the first VDisplay tick
+unfoldable pub lead : Screen → ℕ
+lead s = min (s .display .0) (inLine s (halvesToVDisplay s) 0 - displayFrom s)
 
 -- sync is low, by the period; at: the tick's number in a cycle of half a line, tick: in the full line
 abbrev pub lowIn : Bool → ℕ → ℕ → Period → ℕ → ℕ → Bool
@@ -82,12 +92,16 @@ nextAt s at = cond (ltb (at + 1) (halfTicks s)) (at + 1) 0
 abbrev pub tickNumber : Screen → ℕ → ℕ → ℕ
 tickNumber s half at = half * halfTicks s + at
 
+-- the frame's visible ticks among its first n
+unfoldable pub visibleBefore : Screen → ℕ → ℕ
+visibleBefore s n = count (λ k. visible s (k / halfTicks s) (k % halfTicks s)) n
+
 -- the moment of a place, all in one: a low sync, and the place one tick on
 unfoldable pub momentOf : Screen → Bool → ℕ → ℕ → Moment
 momentOf s plain half at =
     record {
-      vsync = isVSync (period s half);
-      vdisplay = isVDisplay (period s half);
+      vsyncing = isVSync (period s half);
+      vdisplaying = isVDisplay (period s half);
       visible = visible s half at;
       low = syncLow s plain half at;
       opens = opens s half at;

@@ -16,10 +16,11 @@ pub enum Period {
     VDisplay,
 }
 
-// What a place in the frame says of its tick, and the place after it: its half line and its number there.
+// What a place in the frame says of its tick: it lies in VSync, in VDisplay; it is visible; sync is low; it is the first tick of VDisplay, or
+// the frame's last. And the place after it: its half line and its number there.
 pub struct Moment {
-    pub vsync: bool,
-    pub vdisplay: bool,
+    pub vsyncing: bool,
+    pub vdisplaying: bool,
     pub visible: bool,
     pub low: bool,
     pub opens: bool,
@@ -73,17 +74,20 @@ pub fn moment_of(params: [u32; 14], plain: bool, half: u32, at: u32) -> Moment
     let to = from + s.display.0;
     let number = half as u64;
     let place = at as u64;
-    let tick = base::choose((number + post) % 2 == 1, line + place, place);
+    // full lines count from VBlank's first half line
+    let line_from = post;
+    let second = (number + line_from) % 2 == 1;
+    let tick = base::choose(second, line + place, place);
     let period = period_of(number, pre, sync, post, blank);
-    let vdisplay = blank <= number;
+    let vdisplaying = blank <= number;
     let later = number + 1;
     let after = place + 1;
     let stays = after < line;
     let next = base::choose(later < frame, later, 0);
     Moment {
-        vsync: (pre <= number) & (number < sync),
-        vdisplay,
-        visible: vdisplay & ((from <= tick) & (tick < to)),
+        vsyncing: (pre <= number) & (number < sync),
+        vdisplaying,
+        visible: vdisplaying & ((from <= tick) & (tick < to)),
         low: is_low(plain, period, place, tick, s.halfsync.0, s.broadpulse.0),
         opens: (number == blank) & (place == 0),
         closes: (frame <= later) & (line <= after),

@@ -3,13 +3,13 @@ use Prim.Native.Nat.{ℕ}
 use mathlib.Core.Bool.{Bool, true, false}
 use mathlib.Core.Path.{_≡_, sym, _∙_}
 use borrow.Author.Tests.{eq-eqb, ne-eqb}
-use Rattle.map.specs.Map.{placeOf}
+use Rattle.registers.specs.Map.{placeOf}
 use Rattle.registers.specs.File.{storeIn}
-use Rattle.map.specs.declared.Place.{Place}
+use Rattle.registers.specs.declared.map.Place.{Place}
 use Rattle.registers.specs.declared.Registers.{Registers}
-use Rattle.counters.specs.Counters.{fresh}
-use Rattle.counters.specs.declared.Generator.{Generator}
-use Rattle.access.specs.Access.{writeRefusal}
+use Rattle.generator.specs.Counters.{fresh}
+use Rattle.generator.specs.declared.Generator.{Generator}
+use Rattle.machine.specs.Access.{writeRefusal}
 use Rattle.machine.specs.Rules.{starts, stored, written, readRefusal, valueAt, answered}
 use Rattle.machine.specs.declared.Machine.{Machine}
 use Rattle.machine.specs.declared.Written.{Written}

@@ -3,3 +3,4 @@ mod Cases
 pub mod Soundness
 pub mod Theorems
 pub mod Unused
+pub mod Words

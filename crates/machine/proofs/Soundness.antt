@@ -1,34 +1,33 @@
 -- The one condition: true of the beginning, and kept by every call. Assumes nothing.
 use Prim.Native.Nat.{ℕ}
 use mathlib.Core.Bool.{Bool, true, false, cond, true≢false}
-use mathlib.Core.List.{List}
+use mathlib.Core.List.{List, [], _∷_}
 use mathlib.Core.Path.{_≡_, refl, sym, _∙_}
 use lib.Dec.{eqb}
 use borrow.Author.Tests.{eqb-true, not-false}
 use Rattle.control.specs.Control.{running, outside}
-use Rattle.limits.specs.Limits.{Accepted}
-use Rattle.limits.proofs.Laws as limits
-use Rattle.map.specs.Map.{placeOf, isControl, isParameter}
+use Rattle.screen.specs.Limits.{Accepted}
+use Rattle.screen.proofs.limits.Laws as limits
+use Rattle.registers.specs.Map.{placeOf, isControl, isParameter}
 use Rattle.registers.specs.File.{zeros, storeIn}
-use Rattle.map.specs.declared.Place.{Place}
-use Rattle.map.proofs.Laws.{control-open}
-use Rattle.registers.proofs.Laws.{control-stored, control-kept, params-kept, zeros-held, stored-held}
-use Rattle.counters.specs.Rows.{screen}
-use Rattle.counters.specs.Counters.{fresh}
-use Rattle.counters.specs.Sound.{Sound, Placed}
-use Rattle.generator.proofs.Kept.{fresh-placed, tick-sound}
-use Rattle.access.specs.Access.{startLimit, writeRefusal}
+use Rattle.registers.specs.declared.map.Place.{Place}
+use Rattle.registers.proofs.map.Laws.{control-open}
+use Rattle.registers.proofs.Laws.{control-stored, control-kept, params-kept, zeros-in-widths, stored-in-widths}
+use Rattle.generator.specs.Rows.{screen}
+use Rattle.generator.specs.Counters.{fresh}
+use Rattle.generator.specs.Sound.{Placed, Rolled}
+use Rattle.generator.proofs.Kept.{fresh-placed, fresh-rolled, tick-sound}
+use Rattle.machine.specs.Access.{startLimit, writeRefusal}
 use Rattle.machine.specs.Rules.{beginning, starts, stored, written, answered, advanced}
+use Rattle.machine.specs.Calls.{Call, write, read, tick, afterAll}
+use Rattle.machine.specs.Conditions.{SoundMachine}
 use Rattle.machine.specs.declared.Machine.{Machine}
-use Rattle.access.proofs.Passed.{Passed, passed}
-
-abbrev pub SoundMachine : Machine → Type 0
-SoundMachine m = Sound (m .regs) (m .generator)
+use Rattle.machine.proofs.access.Passed.{Passed, passed}
 
 pub beginning-sound : SoundMachine beginning
 unfolding zeros
 beginning-sound =
-    record { held = zeros-held; in-build = refl; accepted = λ on. absurd (true≢false (sym on)); placed = λ on. absurd (true≢false (sym on)) }
+    record { widths = zeros-in-widths; in-build = refl; rolled = fresh-rolled; accepted = λ on. absurd (true≢false (sym on)); placed = λ on. absurd (true≢false (sym on)) }
 
 module _ (m : Machine) (z : SoundMachine m) (p : Place) (value : ℕ) (q : Passed (m .regs) p value) where
   -- a control write with bit 0 set has kept the limits
@@ -66,12 +65,17 @@ module _ (m : Machine) (z : SoundMachine m) (p : Place) (value : ℕ) (q : Passe
   placed-on false true false c e s on = absurd (true≢false (sym (rw (control-kept (m .regs) p value c) at on) ∙ stopped e))
   placed-on false false false c e s on = rw (same-screen e) (z .placed (rw (control-kept (m .regs) p value c) at on))
 
+  rolled-on : (s : Bool) → Rolled (cond s fresh (m .generator))
+  rolled-on true = fresh-rolled
+  rolled-on false = z .rolled
+
   stored-sound : SoundMachine (stored m p value)
   unfolding stored
   stored-sound =
       record {
-        held = stored-held (m .regs) p value (z .held) (record { narrow = q .narrow });
+        widths = stored-in-widths (m .regs) p value (z .widths) (record { narrow = q .narrow });
         in-build = build (isControl p) refl;
+        rolled = rolled-on (starts (m .regs) p value);
         accepted = accepted-on (isControl p) (isParameter p) refl refl;
         placed = placed-on (isControl p) (isParameter p) (starts (m .regs) p value) refl refl refl;
       }
@@ -92,3 +96,10 @@ read-sound m address z = z
 pub advance-sound : (m : Machine) (memory : List ℕ) → SoundMachine m → SoundMachine (advanced m memory .machine)
 unfolding advanced
 advance-sound m memory z = tick-sound (m .regs) memory (m .generator) z
+
+-- and so does any list of calls
+pub calls-sound : (m : Machine) (calls : List Call) → SoundMachine m → SoundMachine (afterAll m calls)
+calls-sound m [] z = z
+calls-sound m (write address value ∷ rest) z = calls-sound (written m address value .machine) rest (write-sound m address value z)
+calls-sound m (read address ∷ rest) z = calls-sound (answered m address .machine) rest (read-sound m address z)
+calls-sound m (tick memory ∷ rest) z = calls-sound (advanced m memory .machine) rest (advance-sound m memory z)

@@ -1,30 +1,29 @@
 -- What the owner's demands 1 and 2 come to: refusals change nothing, screens start exactly when allowed, writes read back.
 -- Assumes nothing.
-use Prim.Native.Nat.{ℕ, _≤_}
-use mathlib.Core.Bool.{Bool, true, false, not, cond, _&&_, _||_, true≢false}
-use mathlib.Core.List.{List, [], _∷_}
+use Prim.Native.Nat.{ℕ}
+use mathlib.Core.Bool.{Bool, true, false, not, cond, _&&_}
+use mathlib.Core.List.{List}
 use mathlib.Core.Path.{_≡_, refl, sym, _∙_}
 use lib.Dec.{eqb}
 use borrow.Author.Tests.{ne-eqb, eq-eqb, eqb-true}
-use Rattle.control.specs.Control.{running, outside}
-use Rattle.limits.specs.Limits.{limitOf}
-use Rattle.map.specs.Map.{placeOf, isReserved}
+use Rattle.control.specs.Control.{running}
+use Rattle.registers.specs.Map.{placeOf, isReserved}
 use Rattle.registers.specs.File.{valueIn}
-use Rattle.map.specs.declared.Place.the-variants.{Control}
+use Rattle.registers.specs.declared.map.Place.the-variants.{Control}
 use Rattle.registers.specs.declared.Registers.{Registers}
-use Rattle.map.proofs.Laws.{address-single}
-use Rattle.registers.proofs.Laws.{kept, back}
-use Rattle.counters.specs.Rows.{screen}
-use Rattle.counters.specs.Counters.{fresh}
+use Rattle.registers.proofs.map.Laws.{address-single}
+use Rattle.registers.proofs.Laws.{kept, back, control-stored}
+use Rattle.generator.specs.Counters.{fresh}
 use Rattle.generator.specs.Tick.{tickRefusal, tickOf}
 use Rattle.signals.specs.Signals.{silent}
-use Rattle.counters.specs.declared.Generator.{Generator}
-use Rattle.access.specs.Access.{startLimit, writeRefusal}
+use Rattle.generator.specs.declared.Generator.{Generator}
+use Rattle.machine.specs.Access.{startLimit, writeRefusal}
 use Rattle.machine.specs.Rules.{stored, written, readRefusal, valueAt, answered, advanced}
-use Rattle.machine.specs.Calls.{Call, write, read, tick, after, afterAll, Spares, Untouched}
+use Rattle.machine.specs.Calls.{Call, write, read, tick, afterCall, Spares}
 use Rattle.machine.specs.declared.Machine.{Machine}
-use Rattle.access.proofs.Passed.{Passed, passed, accepted}
-use Rattle.machine.proofs.Soundness.{SoundMachine}
+use Rattle.machine.proofs.access.Passed.{Passed, passed, accepted}
+use Rattle.machine.specs.Conditions.{SoundMachine, Startable}
+use Rattle.base.proofs.Bools.{neither-holds}
 
 -- ---- a refused call leaves the machine as it was, and answers 0 for all else
 
@@ -41,7 +40,7 @@ unfolding answered
 read-same m address = refl
 
 -- a tick's number is its refusal, in every case
-tick-number : (r : Registers) (memory : List ℕ) (g : Generator) → tickOf r memory g .refusal ≡ tickRefusal r memory g
+pub tick-number : (r : Registers) (memory : List ℕ) (g : Generator) → tickOf r memory g .refusal ≡ tickRefusal r memory g
 unfolding tickOf
 tick-number r memory g = go (eqb (tickRefusal r memory g) 0) refl
   where
@@ -56,12 +55,6 @@ tick-refused-same m memory n =
     (simp e, simp e)
 
 -- ---- a screen starts exactly when the limits hold
-
--- a control word of 24 bits in the build, under which the registers keep every limit
-pub record Startable (m : Machine) (value : ℕ) : Type 0 where
-  pub narrow : value ≤ 0xFFFFFF
-  pub in-build : outside value ≡ false
-  pub limits : limitOf value (screen (m .regs)) ≡ 0
 
 pub starts-if : (m : Machine) (value : ℕ) → running value ≡ true → Startable m value → written m 0x060 value .refusal ≡ 0
 unfolding written placeOf startLimit
@@ -91,6 +84,14 @@ running-kept m value on = go (eqb (writeRefusal (m .regs) Control value) 0)
     go true = simp (on, and-off)
     go false = refl
 
+-- going to 0 stops it: the generator stays as it was, and the next tick gets 23
+pub stops : (m : Machine) (value : ℕ) (memory : List ℕ) → running value ≡ false → written m 0x060 value .refusal ≡ 0 → (written m 0x060 value .machine .generator ≡ m .generator) × (advanced (written m 0x060 value .machine) memory .refusal ≡ 23)
+unfolding written placeOf stored advanced tickOf tickRefusal
+stops m value memory off e = (
+  simp (eq-eqb _ 0 e, off),
+  simp (eq-eqb _ 0 e, off, control-stored (m .regs) Control value refl),
+)
+
 -- ---- an accepted write reads back as written
 
 spared-write : (a : ℕ) (m : Machine) (address value : ℕ) → Spares a m (write address value) → isReserved (placeOf a) ≡ false → valueIn (written m address value .machine .regs) (placeOf a) ≡ valueIn (m .regs) (placeOf a)
@@ -101,23 +102,11 @@ spared-write a m address value s mapped = go (eqb (writeRefusal (m .regs) (place
     go true e = kept (m .regs) (placeOf address) value (placeOf a) (λ same. s (eqb-true _ 0 e) (sym (address-single a address same mapped)))
     go false e = refl
 
-spared : (a : ℕ) (m : Machine) (call : Call) → Spares a m call → isReserved (placeOf a) ≡ false → valueIn (after m call .regs) (placeOf a) ≡ valueIn (m .regs) (placeOf a)
+pub spared : (a : ℕ) (m : Machine) (call : Call) → Spares a m call → isReserved (placeOf a) ≡ false → valueIn (afterCall m call .regs) (placeOf a) ≡ valueIn (m .regs) (placeOf a)
 unfolding answered advanced
 spared a m (write address value) s mapped = spared-write a m address value s mapped
 spared a m (read address) s mapped = refl
 spared a m (tick memory) s mapped = refl
-
-spared-all : (a : ℕ) (m : Machine) (calls : List Call) → Untouched a m calls → isReserved (placeOf a) ≡ false → valueIn (afterAll m calls .regs) (placeOf a) ≡ valueIn (m .regs) (placeOf a)
-spared-all a m [] u mapped = refl
-spared-all a m (call ∷ rest) u mapped = spared-all a (after m call) rest (u .1) mapped ∙ spared a m call (u .0) mapped
-
-or-left : (a b : Bool) → (a || b) ≡ false → a ≡ false
-or-left true b e = absurd (true≢false e)
-or-left false b e = refl
-
-or-right : (a b : Bool) → (a || b) ≡ false → b ≡ false
-or-right true b e = absurd (true≢false e)
-or-right false b e = e
 
 -- an accepted write has passed, and its register stands in the file
 write-passed : (m : Machine) (a v : ℕ) → written m a v .refusal ≡ 0 → Passed (m .regs) (placeOf a) v
@@ -129,11 +118,14 @@ unfolding written stored
 write-stands m a v z w =
     let q = passed (m .regs) (placeOf a) v w in
     simp (eq-eqb (writeRefusal (m .regs) (placeOf a) v) 0 w)
-    (back (m .regs) a v (z .held) (record { narrow = q .narrow }) (or-left (isReserved (placeOf a)) _ (q .opened)) (or-right (isReserved (placeOf a)) _ (q .opened)))
+    (back (m .regs) a v (z .widths) (record { narrow = q .narrow }) (neither-holds (isReserved (placeOf a)) _ (q .opened) .0) (neither-holds (isReserved (placeOf a)) _ (q .opened) .1))
 
-pub reads-back : (m : Machine) (a v : ℕ) (calls : List Call) → SoundMachine m → written m a v .refusal ≡ 0 → Untouched a (written m a v .machine) calls → answered (afterAll (written m a v .machine) calls) a .refusal ≡ 0 → answered (afterAll (written m a v .machine) calls) a .value ≡ v
+pub write-mapped : (m : Machine) (a v : ℕ) → written m a v .refusal ≡ 0 → isReserved (placeOf a) ≡ false
+write-mapped m a v w = neither-holds (isReserved (placeOf a)) _ (write-passed m a v w .opened) .0
+
+-- where the register still stands, an accepted read gives what was written
+pub stands-back : (m : Machine) (a v : ℕ) → SoundMachine m → written m a v .refusal ≡ 0 → (n : Machine) → valueIn (n .regs) (placeOf a) ≡ valueIn (written m a v .machine .regs) (placeOf a) → answered n a .refusal ≡ 0 → answered n a .value ≡ v
 unfolding answered valueAt
-reads-back m a v calls z w u e =
-    let opened = write-passed m a v w .opened in
-    simp (eq-eqb (readRefusal (afterAll (written m a v .machine) calls) (placeOf a)) 0 e, or-right (isReserved (placeOf a)) _ opened)
-    (spared-all a (written m a v .machine) calls u (or-left (isReserved (placeOf a)) _ opened) ∙ write-stands m a v z w)
+stands-back m a v z w n same e =
+    simp (eq-eqb (readRefusal n (placeOf a)) 0 e, neither-holds (isReserved (placeOf a)) _ (write-passed m a v w .opened) .1)
+    (same ∙ write-stands m a v z w)

@@ -8,16 +8,16 @@ use lib.Dec.{eqb}
 use Rattle.base.specs.Count.{some}
 use Rattle.base.proofs.Run.{run-same}
 use Rattle.control.specs.Control.{field, bit, running, plain, forcedBlank, transferring, cursorOn, outside, depth, increment}
-use Rattle.limits.specs.Limits.{laterLimit, limitOf}
+use Rattle.screen.specs.Limits.{laterLimit, limitOf}
 use Rattle.registers.specs.declared.Registers.{Registers}
 use Rattle.memory.specs.Memory.{pixelShown}
 use Rattle.pixel.specs.Dot.{dotAt}
 use Rattle.signals.specs.declared.Dot.{Dot}
 use Rattle.pixel.specs.declared.Sums.{Sums}
-use Rattle.lines.specs.Lines.{period, secondHalf, inLine, visible, opens, closes, nextHalf, nextAt}
-use Rattle.counters.specs.Rows.{screen, visibleAt, shows, taken, transferAt, heldAddress, place, asks, leads, requestAt}
+use Rattle.lines.specs.Lines.{period, lineFrom, secondHalf, inLine, visible, opens, closes, nextHalf, nextAt, visibleBefore}
+use Rattle.generator.specs.Rows.{screen, visibleAt, shows, topUsed, taken, transferAt, heldAddress, rowDivisor, place, asks, leads, requestAt}
 use Rattle.generator.specs.Tick.{dotOf, dots, refuses20, cleared, sumsAfter, seenAfter, stepWith, signalsWith, tickRefusal, tickOf}
-use Rattle.counters.specs.declared.Generator.{Generator}
+use Rattle.generator.specs.declared.Generator.{Generator}
 use Rattle.generator.specs.declared.Ticked.{Ticked}
 use Rattle.machine.specs.Alike.{SameMode, Alike, SameColours}
 
@@ -81,11 +81,11 @@ module _ (r other : Registers) (n : ℕ) (a : Alike r other n) where
 
   module _ (g : Generator) where
     same-visible : visibleAt other g ≡ visibleAt r g
-    unfolding visibleAt visible period inLine secondHalf
+    unfolding visibleAt visible period inLine secondHalf lineFrom
     same-visible = rw (a .line-start)
 
     same-taken : taken other g ≡ taken r g
-    unfolding taken opens
+    unfolding topUsed taken opens
     same-taken = rw (a .line-start, a .top)
 
     same-transfer : transferAt other g ≡ transferAt r g
@@ -100,16 +100,20 @@ module _ (r other : Registers) (n : ℕ) (a : Alike r other n) where
     unfolding asks
     same-asks v = rw (a .line-start, same-transferring c d (a .mode))
 
+    same-leads : (k : ℕ) → leads (screen other) k ≡ leads (screen r) k
+    unfolding leads visibleBefore visible period inLine secondHalf lineFrom
+    same-leads k = rw (a .line-start)
+
     same-request : requestAt other g ≡ requestAt r g
-    unfolding requestAt leads
-    same-request = rw (same-visible, same-asks (g .seen .0), same-transferring c d (a .mode), a .line-start)
+    unfolding requestAt
+    same-request = rw (same-visible, same-asks (g .seen .0), same-leads, same-transferring c d (a .mode), a .line-start)
 
     same-shows : shows other g ≡ shows r g
     unfolding shows
     same-shows = rw (same-visible, same-blank c d (a .mode))
 
   same-place : (address v k : ℕ) → place other address v k ≡ place r address v k
-  unfolding place
+  unfolding rowDivisor place
   same-place address v k = rw (a .line-start, same-increment c d (a .mode))
 
   same-dot : (m : List ℕ) (address v k : ℕ) → dotOf other m address v k ≡ dotOf r m address v k
@@ -136,7 +140,7 @@ module _ (r other : Registers) (n : ℕ) (a : Alike r other n) where
     same-step sums = rw (same-visible g, same-held g, same-asks g (g .seen .0), a .line-start)
 
     same-signals : plain d ≡ plain c → (four : List Dot) → signalsWith other g four ≡ signalsWith r g four
-    unfolding signalsWith period inLine secondHalf
+    unfolding signalsWith period inLine secondHalf lineFrom
     same-signals p four =
         rw (same-shows g, same-request g, same-held g, same-transfer g, p, same-transferring c d (a .mode), a .line-start)
 

@@ -4,7 +4,7 @@ use Prim.Native.Nat.{ℕ, _/_, _%_}
 use mathlib.Core.Path.{_≡_}
 use Rattle.units.specs.declared.Screen.{Screen}
 use Rattle.registers.specs.declared.Registers.{Registers}
-use Rattle.counters.specs.Rows.{screen}
+use Rattle.generator.specs.Rows.{screen}
 use Rattle.generator.specs.declared.Ticked.{Ticked}
 
 -- two control words that agree in bits 0, 1 and 3 and from bit 10 on; bit 4 is asked about where it counts

@@ -6,13 +6,13 @@ use mathlib.Core.List.{List}
 use lib.Dec.{eqb}
 use lib.ListN.{getD}
 use Rattle.control.specs.Control.{running}
-use Rattle.map.specs.Map.{placeOf, numberOf, isControl, isChecksum, isReserved}
+use Rattle.registers.specs.Map.{placeOf, numberInRow, isControl, isChecksum, isReserved}
 use Rattle.registers.specs.File.{zeros, valueIn, storeIn}
-use Rattle.access.specs.Access.{refuses3, writeRefusal}
-use Rattle.checksum.specs.Words.{checksumWords}
-use Rattle.map.specs.declared.Place.{Place}
+use Rattle.machine.specs.Access.{refuses3, writeRefusal}
+use Rattle.machine.specs.Words.{checksumWords}
+use Rattle.registers.specs.declared.map.Place.{Place}
 use Rattle.registers.specs.declared.Registers.{Registers}
-use Rattle.counters.specs.Counters.{displaying, fresh}
+use Rattle.generator.specs.Counters.{displaying, fresh}
 use Rattle.generator.specs.Tick.{tickOf}
 use Rattle.machine.specs.declared.Machine.{Machine}
 use Rattle.machine.specs.declared.Written.{Written}
@@ -53,7 +53,7 @@ unfoldable pub readRefusal : Machine → Place → ℕ
 readRefusal m p = cond (isReserved p) 2 (cond (refuses3 (m .regs) p) 3 (cond (refuses5 m p) 5 0))
 
 unfoldable pub valueAt : Machine → Place → ℕ
-valueAt m p = cond (isChecksum p) (getD (checksumWords (m .generator .sums)) (numberOf p) 0) (valueIn (m .regs) p)
+valueAt m p = cond (isChecksum p) (getD (checksumWords (m .generator .sums)) (numberInRow p) 0) (valueIn (m .regs) p)
 
 -- a refused read gives 0; no read changes the machine
 unfoldable pub answered : Machine → ℕ → Answered

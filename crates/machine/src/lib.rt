@@ -1,10 +1,14 @@
 // The machine (01): registers and generator by value. Every call hands back the next machine beside its answer.
+pub mod access;
+mod checksum;
+
 ghost use mathlib.Core.Path.{_≡_};
-ghost use Rattle.counters.specs.Sound.{Sound};
+ghost use Rattle.machine.specs.Conditions.{SoundMachine};
 ghost use Rattle.machine.specs.Rules.{beginning, stored, written, readRefusal, valueAt, answered, advanced};
-use counters::Generator;
-use map::Place;
+use generator::Generator;
 use registers::Registers;
+use registers::map;
+use registers::map::Place;
 use signals::Signals;
 
 pub struct Machine {
@@ -34,13 +38,13 @@ pub struct Advanced {
 
 // The first of 2, 3 and 5 that holds of a read, or 0.
 fn read_refusal(m: Machine, p: Place) -> u32
-    requires { ⌜ Sound (m .regs) (m .generator) ⌝ }
+    requires { ⌜ SoundMachine m ⌝ }
     ensures refusal { λ n. ⌜ n ≡ readRefusal m p ⌝ }
 {
     let regs = m.regs;
     let generator = m.generator;
     let busy = map::is_parameter(p) & control::is_running(regs.control);
-    let shown = map::is_checksum(p) & counters::is_displaying(regs, generator);
+    let shown = map::is_checksum(p) & generator::is_displaying(regs, generator);
     let n5 = base::first(shown, 5, 0);
     let n3 = base::first(busy, 3, n5);
     base::first(map::is_reserved(p), 2, n3)
@@ -52,7 +56,7 @@ fn value_at(m: Machine, p: Place) -> u32
 {
     let regs = m.regs;
     let sums = m.generator.sums;
-    let word = checksum::checksum_word(map::number_of(p), sums);
+    let word = checksum::checksum_word(map::number_in_row(p), sums);
     base::first(map::is_checksum(p), word, regs.value(p))
 }
 
@@ -102,7 +106,7 @@ impl Machine {
 
     // A register read.
     pub fn read(self, address: u32) -> Answered
-        requires { ⌜ Sound (self .regs) (self .generator) ⌝ }
+        requires { ⌜ SoundMachine self ⌝ }
         ensures answered { λ a. ⌜ a ≡ answered self address ⌝ }
     {
         let p = map::place_of(address);
@@ -123,7 +127,7 @@ impl Machine {
 
     // One tick, with a picture memory lent.
     pub fn tick(self, memory: &[u8]) -> Advanced
-        requires { ⌜ Sound (self .regs) (self .generator) ⌝ }
+        requires { ⌜ SoundMachine self ⌝ }
         ensures advanced { λ a. ⌜ a ≡ advanced self (now (memory .entry)) ⌝ }
     {
         let regs = self.regs;

@@ -3,8 +3,8 @@ use Prim.Native.Nat.{ℕ, _+_, _*_, _-_}
 use mathlib.Core.Path.{_≡_}
 use mathlib.Core.Bool.{Bool, cond, _&&_}
 use lib.Dec.{ltb, leb}
-use Rattle.points.specs.Points.{apart, distance}
-use Rattle.points.specs.declared.Point.{Point}
+use Rattle.marks.specs.Points.{apart, distance}
+use Rattle.marks.specs.declared.points.Point.{Point}
 use Rattle.marks.specs.Marks.{ring, cross, mark, reach, line}
 
 -- a line, of its products and distances

@@ -1,2 +1,4 @@
--- The rules of marks and lines.
+-- An ear's marks and lines, and points.
 pub mod Marks
+pub mod Ear
+pub mod Points

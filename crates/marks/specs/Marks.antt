@@ -2,8 +2,8 @@
 use Prim.Native.Nat.{ℕ, _+_, _*_, _-_}
 use mathlib.Core.Bool.{Bool, cond, _&&_}
 use lib.Dec.{ltb, leb}
-use Rattle.points.specs.Points.{apart, distance}
-use Rattle.points.specs.declared.Point.{Point}
+use Rattle.marks.specs.Points.{apart, distance}
+use Rattle.marks.specs.declared.points.Point.{Point}
 
 -- a circle of radius 7, two pixels thick
 abbrev pub ring : Point → Point → Bool

@@ -1,14 +1,16 @@
-// Marks and lines: whether a pixel belongs to a ring, a cross or a line between two points.
+// An ear's marks and lines: whether a pixel belongs to a ring, a cross or a line between two points.
+pub mod ear;
+pub mod points;
+
 ghost use mathlib.Core.Path.{_≡_};
-ghost use Rattle.marks.specs.Marks.{ring, cross, mark, line};
-ghost use Rattle.marks.specs.Marks.{reach as Marks·reach};
-use points::Point;
-use points::apart;
-use points::between;
-use points::distance;
-use points::less;
-use points::pick;
-use points::times;
+ghost use Rattle.marks.specs.Marks.{ring, cross, mark, line, reach as Marks·reach};
+use crate::points::Point;
+use crate::points::apart;
+use crate::points::between;
+use crate::points::distance;
+use crate::points::less;
+use crate::points::pick;
+use crate::points::times;
 
 // The right ear's mark: a circle of radius 7, two pixels thick.
 fn is_ring(p: Point, centre: Point) -> bool

@@ -8,13 +8,13 @@ use borrow.Author.Tests.{lt-ltb, le-ltb}
 use lib.Dec.{eqb}
 use lib.ListN.{length, getD, drop}
 use Rattle.words.specs.Words.{front, skip, past, wordAt, wordCount}
-use Rattle.number.specs.declared.Number.{Number}
-use Rattle.thresholds.specs.declared.Chart.{Chart}
-use Rattle.thresholds.specs.declared.Reading.{Reading}
-use Rattle.thresholds.specs.declared.Level.{Level}
-use Rattle.thresholds.specs.Thresholds.{placed}
-use Rattle.level.specs.Levels.{plainNumber, levelOf}
-use Rattle.patient.specs.Patient.{tooLong, frequencies, foundUpTo, frequencyOf, wordsRead, silent, lineRead}
+use Rattle.words.specs.declared.number.Number.{Number}
+use Rattle.patient.specs.declared.thresholds.Chart.{Chart}
+use Rattle.patient.specs.declared.thresholds.Reading.{Reading}
+use Rattle.patient.specs.declared.thresholds.Level.{Level}
+use Rattle.patient.specs.Thresholds.{placed}
+use Rattle.patient.specs.Levels.{plainNumber, levelOf}
+use Rattle.patient.specs.Patient.{tooLong, frequencies, foundUpTo, frequencyOf, wordsRead, remarkWord, lineRead}
 
 -- one frequency more
 pub found-none : (n : Number) → 11 ≡ foundUpTo n 0
@@ -30,7 +30,7 @@ module _ (chart : Chart) (line : List ℕ) where
   unfolding lineRead
   line-long l = rw (lt-ltb 1000 (length line) l)
 
-  module _ (l : length line ≤ 1000) (remark : Bool) (h : remark ≡ silent (wordAt 0 line)) where
+  module _ (l : length line ≤ 1000) (remark : Bool) (h : remark ≡ remarkWord (wordAt 0 line)) where
     pub line-remark : remark ≡ true → _≡_ {A = Reading} (record { fault = 0; chart = chart }) (lineRead chart line)
     unfolding lineRead
     line-remark e = rw (le-ltb 1000 (length line) l, ← h, e)
@@ -41,7 +41,7 @@ module _ (chart : Chart) (line : List ℕ) where
 
 -- the first word of a line, and what is left past it
 module _ (line word : List ℕ) (to : ℕ) (first : word ≡ front (skip (drop 0 line))) where
-  pub remark-made : (r : Bool) → r ≡ silent word → r ≡ silent (wordAt 0 line)
+  pub remark-made : (r : Bool) → r ≡ remarkWord word → r ≡ remarkWord (wordAt 0 line)
   unfolding wordAt
   remark-made r e = rw (e, first)
 

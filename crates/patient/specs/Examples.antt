@@ -2,8 +2,8 @@
 use Prim.Native.Nat.{ℕ}
 use mathlib.Core.List.{List, [], _∷_}
 use lib.ListN.{set}
-use Rattle.thresholds.specs.declared.Chart.{Chart}
-use Rattle.thresholds.specs.Thresholds.{fresh}
+use Rattle.patient.specs.declared.thresholds.Chart.{Chart}
+use Rattle.patient.specs.Thresholds.{fresh}
 use Rattle.patient.specs.Patient.{lineRead}
 
 -- a line, and the number of its fault; 0 is none
@@ -38,5 +38,5 @@ rows =
     []
 
 -- the chart after a line
-abbrev pub after : List ℕ → Chart
-after line = lineRead begun line .chart
+abbrev pub chartAfter : List ℕ → Chart
+chartAfter line = lineRead begun line .chart

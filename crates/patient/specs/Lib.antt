@@ -1,3 +1,5 @@
--- The rules of a patient's sheet.
+-- A patient's lines, the levels in them, and the thresholds of both ears.
 pub mod Patient
 pub mod Examples
+pub mod Levels
+pub mod Thresholds

@@ -5,11 +5,11 @@ use mathlib.Core.List.{List, [], _∷_}
 use lib.Dec.{ltb, eqb}
 use lib.ListN.{length, getD}
 use Rattle.words.specs.Words.{wordAt, wordCount}
-use Rattle.number.specs.declared.Number.{Number}
-use Rattle.thresholds.specs.Thresholds.{placed}
-use Rattle.thresholds.specs.declared.Chart.{Chart}
-use Rattle.thresholds.specs.declared.Reading.{Reading}
-use Rattle.level.specs.Levels.{plainNumber, levelOf}
+use Rattle.words.specs.declared.number.Number.{Number}
+use Rattle.patient.specs.Thresholds.{placed}
+use Rattle.patient.specs.declared.thresholds.Chart.{Chart}
+use Rattle.patient.specs.declared.thresholds.Reading.{Reading}
+use Rattle.patient.specs.Levels.{plainNumber, levelOf}
 
 -- what is wrong with a long line, as a number
 abbrev pub tooLong : ℕ
@@ -33,12 +33,12 @@ wordsRead chart line =
     placed chart (frequencyOf (plainNumber (wordAt 0 line))) (wordCount line) (levelOf (wordAt 1 line)) (levelOf (wordAt 2 line))
 
 -- no word, or the first of a remark
-abbrev pub silent : List ℕ → Bool
-silent word = eqb (length word) 0 || eqb (getD word 0 0) 59
+abbrev pub remarkWord : List ℕ → Bool
+remarkWord word = eqb (length word) 0 || eqb (getD word 0 0) 59
 
 -- A LINE READ: one of more than 1,000 bytes is too long, whatever it holds; a remark leaves the chart as it is
 unfoldable pub lineRead : Chart → List ℕ → Reading
 lineRead chart line =
     cond (ltb 1000 (length line))
     (record { fault = tooLong; chart = chart })
-    (cond (silent (wordAt 0 line)) (record { fault = 0; chart = chart }) (wordsRead chart line))
+    (cond (remarkWord (wordAt 0 line)) (record { fault = 0; chart = chart }) (wordsRead chart line))

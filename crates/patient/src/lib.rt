@@ -1,22 +1,25 @@
 // A patient's line, read into the two ears' thresholds.
+pub mod level;
+pub mod thresholds;
+
 ghost use mathlib.Core.Path.{_≡_};
 ghost use lib.ListN.{drop};
 ghost use Rattle.words.specs.Words.{front, skip, past, wordAt};
-ghost use Rattle.level.specs.Levels.{levelOf};
-ghost use Rattle.patient.specs.Patient.{frequencyOf, wordsRead, silent, lineRead};
-use level::head;
-use level::level_of;
-use level::plain_number;
-use number::Number;
-use thresholds::Chart;
-use thresholds::Level;
-use thresholds::Reading;
-use thresholds::placed;
+ghost use Rattle.patient.specs.Levels.{levelOf};
+ghost use Rattle.patient.specs.Patient.{frequencyOf, wordsRead, remarkWord, lineRead};
+use crate::level::head;
+use crate::level::level_of;
+use crate::level::plain_number;
+use crate::thresholds::Chart;
+use crate::thresholds::Level;
+use crate::thresholds::Reading;
+use crate::thresholds::placed;
+use words::number::Number;
 
 // In Hz, left to right.
 const FREQUENCIES: [u32; 11] = [125, 250, 500, 750, 1000, 1500, 2000, 3000, 4000, 6000, 8000];
 
-// What is wrong with a line that the other two crates do not find.
+// What is wrong with a line that the two modules do not find.
 pub const TOO_LONG: u32 = 8;
 
 // A level, and the place past its word.
@@ -68,8 +71,8 @@ fn words_read(chart: Chart, line: &[u8]) -> Reading
 }
 
 // No word, or the first of a remark.
-fn is_silent(word: &[u8]) -> bool
-    ensures test { λ r. ⌜ r ≡ silent (now (word .entry)) ⌝ }
+fn is_remark_word(word: &[u8]) -> bool
+    ensures test { λ r. ⌜ r ≡ remarkWord (now (word .entry)) ⌝ }
 {
     let first = head(word);
     (word.len() == 0) | (first == b';')
@@ -77,12 +80,12 @@ fn is_silent(word: &[u8]) -> bool
 
 // A line that says nothing: one with no word, or a remark.
 fn is_remark(line: &[u8]) -> bool
-    ensures test { λ r. ⌜ r ≡ silent (wordAt 0 (now (line .entry))) ⌝ }
+    ensures test { λ r. ⌜ r ≡ remarkWord (wordAt 0 (now (line .entry))) ⌝ }
 {
     let word = words::word_after(line, 0);
     let from = word.from;
     let to = word.to;
-    is_silent(&line[from..to])
+    is_remark_word(&line[from..to])
 }
 
 // A line read into the chart; a remark leaves it as it is. What was cut off a long line is not known, so that is judged first.

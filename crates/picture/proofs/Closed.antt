@@ -1,42 +1,40 @@
 -- The picture that the code draws is the frame's, and so the ticks'. Assumes nothing.
-use Prim.Native.Nat.{ℕ, zero, suc, _+_, _*_, _/_, _%_, _^_, _≤_, _<_}
+use Prim.Native.Nat.{ℕ, zero, suc, _+_, _*_, _/_, _%_, _^_, _<_}
 use mathlib.Core.Bool.{Bool, true, false, not, cond, _&&_, _||_, true≢false}
 use mathlib.Core.List.{List}
 use mathlib.Core.Path.{_≡_, refl, sym, ap, _∙_}
 use native.Mathlib.Nat.{pow-suc}
 use native.Mathlib.Omega.{arith}
-use borrow.Author.Tests.{eqb-true, eq-eqb, ne-eqb}
-use lib.Dec.{eqb, leb, leb→le}
+use borrow.Author.Tests.{eqb-true, ne-eqb}
+use lib.Dec.{eqb}
 use lib.ListN.{length, replicate}
 use lib.Pow.{pow-mono}
 use Rattle.base.specs.Count.{run}
 use Rattle.base.proofs.Run.{run-same}
-use Rattle.base.proofs.Table.{entry}
-use Rattle.control.specs.Control.{running, forcedBlank, transferring, field, depth, pixelBits, increments, increment}
-use Rattle.control.proofs.Laws.{increment-positive}
+use Rattle.control.specs.Control.{running, forcedBlank, transferring, depth, pixelBits}
 use Rattle.screen.specs.Totals.{frameTicks, frameVisible}
 use Rattle.registers.specs.declared.Registers.{Registers}
 use Rattle.memory.specs.Memory.{bitsAt, pixelShown}
 use Rattle.colour.specs.Colour.{maskedPalette}
-use Rattle.pixel.specs.Dot.{codeShown, dotAt}
+use Rattle.cursor.specs.Cursor.{codeOver}
+use Rattle.pixel.specs.Dot.{dotAt}
 use Rattle.signals.specs.Signals.{black}
 use Rattle.cursor.specs.Cursor.{over}
 use Rattle.pixel.specs.Sums.{none}
 use Rattle.pixel.specs.declared.Sums.{Sums}
 use Rattle.colour.proofs.Laws.{masked-palette-entry}
-use Rattle.counters.specs.Rows.{screen, place, asks}
+use Rattle.generator.specs.Rows.{screen, place, asks}
 use Rattle.generator.specs.Tick.{dotOf, after}
-use Rattle.counters.specs.Sound.{Sound}
-use Rattle.counters.specs.declared.Generator.{Generator}
+use Rattle.generator.specs.Sound.{Sound}
+use Rattle.generator.specs.declared.Generator.{Generator}
+use Rattle.generator.proofs.Rows.{top-used-in}
 use Rattle.frame.specs.Frame.{refusedWithin, rowAddress, addressAt, placeAt, dotFor, pixels, pictureRefuses20, sumsTo, frameEnd, Whole}
 use Rattle.frame.proofs.Whole.{whole}
 use Rattle.picture.specs.Picture.{refuses22, pictureRefusal, drawnOf, bufferOf}
-use Rattle.span.specs.Span.{bytesOf, Painted, dotThrough}
-use Rattle.plan.specs.Plan.{planOf, Sized, fitted, addressIn, placeIn, dotIn, shownIn, refusesIn, leftIn}
-use Rattle.plan.specs.declared.Plan.{Plan}
-use Rattle.plan.proofs.Sizes.{fitted-whole}
-use Rattle.picture.specs.Ready.{Ready, endIn}
-use Rattle.span.proofs.Spans.{painted-whole}
+use Rattle.picture.specs.Span.{bytesOf, Painted, Through, through, dotThrough}
+use Rattle.picture.specs.Plan.{planOf, Drawable, addressIn, placeIn, dotIn, refusesIn, leftIn, endIn}
+use Rattle.picture.specs.declared.plan.Plan.{Plan}
+use Rattle.picture.proofs.span.Spans.{painted-whole}
 
 -- a pixel of the build's depths is a byte
 bits-small : (m : List ℕ) (from n : ℕ) → bitsAt m from n < 2 ^ n
@@ -52,50 +50,31 @@ pixel-small control m i = go (transferring control)
     go true = omega (arith, bits-small m (i * pixelBits control) (pixelBits control), pow-mono {i = pixelBits control} {j = 8} (pow-mono {i = depth control} {j = 3} (omega arith)))
     go false = omega arith
 
-increment-most : (control : ℕ) → increment control ≤ 1024
-increment-most control = leb→le _ _ (entry (λ code value. leb value 1024) increments tt (field 12 2 control) (omega arith))
-
-pub sized : (r : Registers) → Ready r → Sized (planOf r)
-unfolding planOf
-sized r ok =
-    let b = ok .accepted .bounded in
-    record {
-      display = b .display .low;
-      display-most = omega (arith, b .display .high);
-      lines = omega (arith, b .vdisplay .low, ok .accepted .display-even);
-      lines-most = omega (arith, b .vdisplay .high);
-      visible = refl;
-      row = omega (arith, b .meminit .low);
-      row-most = omega (arith, b .meminit .high, b .transferdelay .high);
-      top = ok .top-in;
-      increment = increment-positive (r .control);
-      increment-most = increment-most (r .control);
-    }
-
 module _ (r : Registers) (m : List ℕ) where
   visible-link : planOf r .visible ≡ frameVisible (screen r)
   unfolding planOf
   visible-link = refl
 
-  whole-link : Ready r → (p : Plan) → p ≡ planOf r → fitted p ≡ planOf r
-  whole-link ok p e = rw e (fitted-whole (planOf r) (sized r ok))
-
   refuses-link : refusesIn (planOf r) m ≡ pictureRefuses20 r m
   unfolding refusesIn planOf placeIn addressIn pictureRefuses20 placeAt place rowAddress
   refuses-link = refl
 
-  end-link : Ready r → (p : Plan) → p ≡ planOf r → endIn p (sumsTo r m (frameVisible (screen r))) ≡ frameEnd r m
+  end-link : endIn (planOf r) (sumsTo r m (frameVisible (screen r))) ≡ frameEnd r m
   unfolding endIn leftIn planOf addressIn frameEnd rowAddress asks
-  end-link ok p e = rw (whole-link ok p e)
+  end-link = refl
+
+  -- what the frame's colours are looked up through
+  abbrev drawnThrough : Through
+  drawnThrough = through (r .control) (r .position) (maskedPalette (r .palette) (r .mask)) (r .store) (r .colours) m
 
   -- the mask applied to the palette once is the mask applied to each pixel
-  dot-same : (i : ℕ) → dotIn (planOf r) (maskedPalette (r .palette) (r .mask)) (r .store) (r .colours) m i ≡ dotOf r m (addressAt r (i / 4)) (i / 4) (i % 4)
+  dot-same : (i : ℕ) → dotIn (planOf r) drawnThrough i ≡ dotOf r m (addressAt r (i / 4)) (i / 4) (i % 4)
   unfolding dotIn dotThrough planOf placeIn addressIn dotOf dotAt place rowAddress
   dot-same i =
-      ap (λ (below : ℕ). record { colour = over (r .colours) (codeShown r (r .position) (4 * (i / 4 % screen r .display .0) + i % 4) (i / 4 / screen r .display .0)) below })
+      ap (λ (below : ℕ). record { colour = over (r .colours) (codeOver (r .control) (r .position) (r .store) (4 * (i / 4 % screen r .display .0) + i % 4) (i / 4 / screen r .display .0)) below })
       (masked-palette-entry (r .palette) (r .mask) _ (pixel-small (r .control) m (place r (addressAt r (i / 4)) (i / 4) (i % 4))))
 
-  dot-link : forcedBlank (r .control) ≡ false → (i : ℕ) → dotIn (planOf r) (maskedPalette (r .palette) (r .mask)) (r .store) (r .colours) m i ≡ dotFor r m i
+  dot-link : forcedBlank (r .control) ≡ false → (i : ℕ) → dotIn (planOf r) drawnThrough i ≡ dotFor r m i
   unfolding dotFor
   dot-link e i = dot-same i ∙ simp e
 
@@ -117,18 +96,17 @@ module _ (r : Registers) (m : List ℕ) where
     unfolding sumsTo
     frame-black s before after z n a = (z ∙ simp e, a ∙ rw n (sym (black-bytes 0 (pixels r))))
 
-  -- a buffer of the picture's size takes all of it
-  shown-link : (before : List ℕ) → length before ≡ 3 * pixels r → shownIn (planOf r) (length before) ≡ frameVisible (screen r)
-  shown-link before n = simp (eq-eqb (length before) (12 * planOf r .visible) (n ∙ rw visible-link (omega arith))) visible-link
+  plan-painted : (p : Plan) → p ≡ planOf r → (table : List ℕ) → table ≡ maskedPalette (r .palette) (r .mask) → {before after : List ℕ} {s : Sums} →
+      Painted before 0 none (run (dotIn p (through (p .control) (p .position) table (r .store) (r .colours) m)) 0 (4 * p .visible)) after s → Painted before 0 none (run (dotIn (planOf r) drawnThrough) 0 (pixels r)) after s
+  unfolding planOf
+  plan-painted p ep table et d = rw (ep, et) at d
 
-  pub frame-lit : forcedBlank (r .control) ≡ false → Ready r → (p : Plan) → p ≡ planOf r → (table : List ℕ) → table ≡ maskedPalette (r .palette) (r .mask) → {before after : List ℕ} {s : Sums} → length before ≡ 3 * pixels r →
-      Painted before 0 none (run (dotIn (fitted p) table (r .store) (r .colours) m) 0 (4 * shownIn (fitted p) (length before))) after s → (s ≡ sumsTo r m (frameVisible (screen r))) × (after ≡ bytesOf (run (dotFor r m) 0 (pixels r)))
+  pub frame-lit : forcedBlank (r .control) ≡ false → (p : Plan) → p ≡ planOf r → (table : List ℕ) → table ≡ maskedPalette (r .palette) (r .mask) → {before after : List ℕ} {s : Sums} → length before ≡ 3 * pixels r →
+      Painted before 0 none (run (dotIn p (through (p .control) (p .position) table (r .store) (r .colours) m)) 0 (4 * p .visible)) after s → (s ≡ sumsTo r m (frameVisible (screen r))) × (after ≡ bytesOf (run (dotFor r m) 0 (pixels r)))
   unfolding sumsTo
-  frame-lit e ok p ep table et {before} {after} {s} n d =
-      let f = dotIn (planOf r) (maskedPalette (r .palette) (r .mask)) (r .store) (r .colours) m in
-      let same : run (dotIn (fitted p) table (r .store) (r .colours) m) 0 (4 * shownIn (fitted p) (length before)) ≡ run (dotFor r m) 0 (pixels r) =
-      rw (whole-link ok p ep, et) (ap (λ (n : ℕ). run f 0 (4 * n)) (shown-link before n) ∙ run-same f (dotFor r m) 0 0 (pixels r) (λ k l. dot-link e (0 + k))) in
-      let q : Painted before 0 none (run (dotFor r m) 0 (pixels r)) after s = rw same at d in
+  frame-lit e p ep table et {before} {after} {s} n d =
+      let same : run (dotIn (planOf r) drawnThrough) 0 (pixels r) ≡ run (dotFor r m) 0 (pixels r) = run-same (dotIn (planOf r) drawnThrough) (dotFor r m) 0 0 (pixels r) (λ k l. dot-link e (0 + k)) in
+      let q : Painted before 0 none (run (dotFor r m) 0 (pixels r)) after s = rw same at (plan-painted p ep table et d) in
       (q .added ∙ simp e, painted-whole (dotFor r m) (pixels r) q n)
 
   -- the size of the buffer, as the code counts it
@@ -145,17 +123,14 @@ module _ (r : Registers) (g : Generator) (sound : Sound r g) (begins : refuses22
   abbrev begun : (running (r .control) ≡ true) × (eqb (g .half .0) 0 ≡ true) × (eqb (g .at .0) 0 ≡ true)
   begun = three (running (r .control)) (eqb (g .half .0) 0) (eqb (g .at .0) 0) begins
 
-  pub ready : Ready r
-  ready = record { accepted = sound .accepted (begun .0); top-in = sound .held .top }
-
-  pub plan-sized : (p : Plan) → p ≡ planOf r → Sized p
-  plan-sized p e = rw e (sized r ready)
+  pub drawable : Drawable r
+  drawable = record { accepted = sound .accepted (begun .0); top-in = top-used-in r (sound .widths) }
 
   ticks : (m : List ℕ) → Whole r m g
   ticks m = whole r m g sound (begun .0) (record { half = eqb-true _ _ (begun .1); at = eqb-true _ _ (begun .2) })
 
-  refused-link : (m : List ℕ) (p : Plan) → p ≡ planOf r → refusedWithin r m g (frameTicks (screen r)) ≡ refusesIn (fitted p) m
-  refused-link m p e = ticks m .refusal ∙ rw (whole-link r m ready p e) (sym (refuses-link r m))
+  refused-link : (m : List ℕ) (p : Plan) → p ≡ planOf r → refusedWithin r m g (frameTicks (screen r)) ≡ refusesIn p m
+  refused-link m p e = ticks m .refusal ∙ rw e (sym (refuses-link r m))
 
 -- the refusal: 22, and the later two
 module _ (r : Registers) (m : List ℕ) (g : Generator) (size : ℕ) (sound : Sound r g) (early : Bool) (ee : early ≡ refuses22 r g) where
@@ -163,7 +138,7 @@ module _ (r : Registers) (m : List ℕ) (g : Generator) (size : ℕ) (sound : So
   unfolding pictureRefusal
   refusal-22 t = simp (sym ee ∙ t)
 
-  pub refusal-later : early ≡ false → (p : Plan) → p ≡ planOf r → (far : Bool) → far ≡ refusesIn (fitted p) m → (later n : ℕ) → later ≡ cond far 20 0 → n ≡ cond (not (eqb size (12 * p .visible))) 21 later → n ≡ pictureRefusal r m g size
+  pub refusal-later : early ≡ false → (p : Plan) → p ≡ planOf r → (far : Bool) → far ≡ refusesIn p m → (later n : ℕ) → later ≡ cond far 20 0 → n ≡ cond (not (eqb size (12 * p .visible))) 21 later → n ≡ pictureRefusal r m g size
   unfolding pictureRefusal
   refusal-later f p ep far ef later n el en =
       simp (sym ee ∙ f, refused-link r g sound (sym ee ∙ f) m p ep) (en ∙ rw (el, ef, size-link r m p ep))
@@ -195,16 +170,13 @@ module _ (r : Registers) (m : List ℕ) (g : Generator) (before : List ℕ) (n :
     abbrev clear : Free r m g (length before)
     clear = free r m g (length before) (sym en ∙ z)
 
-    pub ready-free : Ready r
-    ready-free = ready r g sound (clear .begins)
+    pub drawable-free : Drawable r
+    drawable-free = drawable r g sound (clear .begins)
 
     pub fits-free : length before ≡ 3 * pixels r
     fits-free = clear .fits
 
     module _ (p : Plan) (ep : p ≡ planOf r) where
-      pub sized-free : Sized p
-      sized-free = plan-sized r g sound (clear .begins) p ep
-
       pub drawn-whole : (s : Sums) (next : Generator) (after′ : List ℕ) → s ≡ sumsTo r m (frameVisible (screen r)) → after′ ≡ bytesOf (run (dotFor r m) 0 (pixels r)) → next ≡ endIn p s →
           (record { refusal = 0; next = next } ≡ drawnOf r m g (length before)) × (after′ ≡ bufferOf r m g before)
       unfolding drawnOf bufferOf
@@ -212,5 +184,5 @@ module _ (r : Registers) (m : List ℕ) (g : Generator) (before : List ℕ) (n :
           let w = ticks r g sound (clear .begins) m in
           let near = sym (w .refusal) ∙ clear .near in
           let zero = sym en ∙ z in
-          let end : next ≡ after r m g (frameTicks (screen r)) = ee ∙ rw es (end-link r m ready-free p ep) ∙ sym (w .end near) in
+          let end : next ≡ after r m g (frameTicks (screen r)) = ee ∙ rw (es, ep) (end-link r m) ∙ sym (w .end near) in
           (simp (zero, end), simp zero (ea ∙ ap bytesOf (sym (w .colours near))))

@@ -8,10 +8,10 @@ use lib.ListN.{length}
 use borrow.Author.Tests.{ne-eqb}
 use Rattle.screen.specs.Totals.{frameTicks}
 use Rattle.registers.specs.declared.Registers.{Registers}
-use Rattle.counters.specs.Rows.{screen}
+use Rattle.generator.specs.Rows.{screen}
 use Rattle.generator.specs.Tick.{after}
-use Rattle.counters.specs.Sound.{Sound}
-use Rattle.counters.specs.declared.Generator.{Generator}
+use Rattle.generator.specs.Sound.{Sound}
+use Rattle.generator.specs.declared.Generator.{Generator}
 use Rattle.generator.proofs.Kept.{tick-sound}
 use Rattle.picture.specs.Picture.{pictureRefusal, drawnOf, bufferOf}
 

@@ -1,4 +1,6 @@
--- A whole picture: its promise, and the definitions of the code that draws it.
+-- A whole picture: its promise in the words of the ticks; then what the code that draws it works with, on plain numbers.
 pub mod Picture
-pub mod Ready
 pub mod Machines
+pub mod Plan
+pub mod Span
+pub mod Stretch

@@ -8,10 +8,10 @@ use lib.ListN.{length}
 use Rattle.control.specs.Control.{running}
 use Rattle.screen.specs.Totals.{frameTicks, framePixels}
 use Rattle.registers.specs.declared.Registers.{Registers}
-use Rattle.span.specs.Span.{bytesOf}
-use Rattle.counters.specs.Rows.{screen}
+use Rattle.picture.specs.Span.{bytesOf}
+use Rattle.generator.specs.Rows.{screen}
 use Rattle.generator.specs.Tick.{after}
-use Rattle.counters.specs.declared.Generator.{Generator}
+use Rattle.generator.specs.declared.Generator.{Generator}
 use Rattle.frame.specs.Frame.{drawn, refusedWithin}
 use Rattle.picture.specs.declared.Drawn.{Drawn}
 

@@ -1,4 +1,7 @@
 // A whole picture (01, "Refusal numbers", 20 to 22; "Rows and pixels"): a frame drawn at once, as its ticks draw it.
+mod plan;
+mod span;
+mod stretch;
 mod whole;
 
 pub use whole::Pictured;
@@ -8,16 +11,15 @@ ghost use Prim.Native.Nat.{_*_};
 ghost use lib.ListN.{length, replicate};
 ghost use Rattle.base.specs.Count.{run};
 ghost use Rattle.screen.specs.Totals.{frameVisible};
-ghost use Rattle.span.specs.Span.{bytesOf};
-ghost use Rattle.counters.specs.Rows.{screen};
-ghost use Rattle.counters.specs.Sound.{Sound};
+ghost use Rattle.picture.specs.Span.{bytesOf};
+ghost use Rattle.generator.specs.Rows.{screen};
+ghost use Rattle.generator.specs.Sound.{Sound};
 ghost use Rattle.frame.specs.Frame.{pixels, dotFor, sumsTo};
 ghost use Rattle.picture.specs.Picture.{pictureRefusal, drawnOf, bufferOf};
-ghost use Rattle.plan.specs.Plan.{planOf};
-ghost use Rattle.picture.specs.Ready.{Ready, endIn};
-use counters::Generator;
+ghost use Rattle.picture.specs.Plan.{planOf, Drawable, Sized, endIn};
+use crate::plan::Plan;
+use generator::Generator;
 use pixel::Sums;
-use plan::Plan;
 use registers::Registers;
 use units::HalfLines;
 use units::ScreenUnits;
@@ -56,7 +58,7 @@ fn blacken(buffer: &mut [u8])
 
 // The picture of a frame that nothing refuses, and its sums. Forced blank: black, nothing read, nothing added.
 fn draw_frame(r: Registers, p: Plan, memory: &[u8], buffer: &mut [u8]) -> Sums
-    requires { ⌜ Ready r ⌝ }
+    requires { ⌜ Drawable r ⌝ }
     requires { ⌜ p ≡ planOf r ⌝ }
     requires { ⌜ length (now buffer) ≡ 3 * pixels r ⌝ }
     ensures sums { λ s. ⌜ s ≡ sumsTo r (now (memory .entry)) (frameVisible (screen r)) ⌝ }
@@ -76,6 +78,7 @@ fn draw_frame(r: Registers, p: Plan, memory: &[u8], buffer: &mut [u8]) -> Sums
 
 // The generator at the frame's end, with these sums.
 fn end_of(p: Plan, sums: Sums) -> Generator
+    requires { ⌜ Sized p ⌝ }
     ensures end { λ g. ⌜ g ≡ endIn p sums ⌝ }
 {
     let left = plan::left_by(p);

@@ -1,7 +1,7 @@
 // A whole picture of the machine: the generator's, the registers as they were.
 ghost use mathlib.Core.Path.{_≡_};
 ghost use lib.ListN.{length};
-ghost use Rattle.counters.specs.Sound.{Sound};
+ghost use Rattle.generator.specs.Sound.{Sound};
 ghost use Rattle.picture.specs.Picture.{bufferOf};
 ghost use Rattle.picture.specs.Machines.{pictured};
 use machine::Machine;

@@ -1,11 +1,11 @@
 -- What callers know of the sums. Assumes nothing.
-use mathlib.Core.Bool.{Bool, cond}
+use mathlib.Core.Bool.{Bool, true, false, cond}
 use mathlib.Core.Path.{_≡_, refl, _∙_}
 use mathlib.Core.List.{List, [], _∷_, _++_}
 use native.Mathlib.Omega.{arith}
 use lib.ListN.{length, getD}
 use Rattle.signals.specs.Signals.{black}
-use Rattle.pixel.specs.Sums.{none, added, summed, clearedAt, summedWhere}
+use Rattle.pixel.specs.Sums.{none, added, summed, clearedAt, summedWhere, Below24}
 use Rattle.signals.specs.declared.Dot.{Dot}
 use Rattle.pixel.specs.declared.Sums.{Sums}
 
@@ -30,3 +30,18 @@ pub after-by : (s : Sums) (opens shows : Bool) (four : List Dot) → length four
     a₁ ≡ added b (getD four 0 black) → a₂ ≡ added a₁ (getD four 1 black) → a₃ ≡ added a₂ (getD four 2 black) → a₄ ≡ added a₃ (getD four 3 black) →
     out ≡ cond shows a₄ b → out ≡ summedWhere shows (clearedAt opens s) four
 after-by s opens shows four e n b a₁ a₂ a₃ a₄ out en eb e₁ e₂ e₃ e₄ eo = eo ∙ rw (e₄, e₃, e₂, e₁, four-summed four e b, eb, en)
+
+-- what is summed stays below 2^24
+pub none-below : Below24 none
+none-below = record { red = omega arith; green = omega arith; blue = omega arith }
+
+pub summed-below : (s : Sums) (dots : List Dot) → Below24 s → Below24 (summed s dots)
+unfolding summed
+summed-below s [] b = b
+summed-below s (dot ∷ rest) b = summed-below (added s dot) rest (record { red = omega arith; green = omega arith; blue = omega arith })
+
+pub where-below : (opens shows : Bool) (s : Sums) (dots : List Dot) → Below24 s → Below24 (summedWhere shows (clearedAt opens s) dots)
+where-below true true s dots b = summed-below none dots none-below
+where-below true false s dots b = none-below
+where-below false true s dots b = summed-below s dots b
+where-below false false s dots b = b

@@ -1,8 +1,9 @@
 -- The checksums (01, "Rows and pixels"): each unblanked colour byte is added to its 24-bit sum. Assumes nothing.
+use Prim.Native.Nat.{_^_, _<_}
 use mathlib.Core.Bool.{Bool, cond}
 use mathlib.Core.List.{List, [], _∷_}
 use Rattle.base.specs.Sum.{rolled}
-use Rattle.colour.specs.Colour.{red, green, blue}
+use Rattle.base.specs.Channels.{red, green, blue}
 use Rattle.signals.specs.declared.Dot.{Dot}
 use Rattle.pixel.specs.declared.Sums.{Sums}
 
@@ -29,3 +30,9 @@ clearedAt opens s = cond opens none s
 -- the pixels of a tick that shows are summed, and of no other
 abbrev pub summedWhere : Bool → Sums → List Dot → Sums
 summedWhere shows s dots = cond shows (summed s dots) s
+
+-- three sums of 24 bits
+pub record Below24 (s : Sums) : Type 0 where
+  pub red : s .red < 2 ^ 24
+  pub green : s .green < 2 ^ 24
+  pub blue : s .blue < 2 ^ 24

@@ -3,6 +3,7 @@ ghost use mathlib.Core.Path.{_≡_};
 ghost use mathlib.Core.Bool.{cond};
 ghost use Rattle.pixel.specs.Dot.{dotAt};
 ghost use Rattle.pixel.specs.Sums.{none, added, clearedAt, summedWhere};
+use base::channels;
 use signals::Dot;
 
 // The three 24-bit sums of colour bytes.
@@ -57,9 +58,9 @@ impl Sums {
     pub fn added(self, dot: Dot) -> Sums
         ensures sums { λ r. ⌜ r ≡ added self dot ⌝ }
     {
-        let red = base::wide(colour::red_byte(dot.colour));
-        let green = base::wide(colour::green_byte(dot.colour));
-        let blue = base::wide(colour::blue_byte(dot.colour));
+        let red = base::wide(channels::red_byte(dot.colour));
+        let green = base::wide(channels::green_byte(dot.colour));
+        let blue = base::wide(channels::blue_byte(dot.colour));
         Sums {
             red: base::rolled_sum(self.red, red),
             green: base::rolled_sum(self.green, green),
@@ -67,7 +68,7 @@ impl Sums {
         }
     }
     // The sums after a tick: cleared where it opens VDisplay, and its four pixels added where it shows them.
-    pub fn after(self, opens: bool, shows: bool, four: [Dot; 4]) -> Sums
+    pub fn tallied(self, opens: bool, shows: bool, four: [Dot; 4]) -> Sums
         ensures sums { λ r. ⌜ r ≡ summedWhere shows (clearedAt opens self) four ⌝ }
     {
         let before = chosen(opens, Sums::none(), self);

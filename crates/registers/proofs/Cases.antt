@@ -6,20 +6,20 @@ use mathlib.Core.List.{List, [], _∷_}
 use native.Mathlib.Omega.{arith}
 use lib.ListN.{length, getD, set, replicate, List·getD-eq-default}
 use lib.Seq.{set-out, set-getD}
-use Rattle.map.specs.declared.Place.{Place}
-use Rattle.map.specs.declared.Place.the-variants.{Reserved, Screen, Mask, Control, Top, Colour, Checksum, Position, Palette, Store}
+use Rattle.registers.specs.declared.map.Place.{Place}
+use Rattle.registers.specs.declared.map.Place.the-variants.{Reserved, Parameter, Mask, Control, Top, Colour, Checksum, Position, Palette, Store}
 use Rattle.registers.specs.declared.Registers.{Registers}
-use Rattle.map.specs.Map.{rowOf, numberOf}
+use Rattle.registers.specs.Map.{rowOf, numberInRow}
 use Rattle.registers.specs.File.{rows, rowIn, valueIn, keptAt, storeIn}
 
 -- a number past the end of its row: nothing stands there, and nothing is stored
-pub value-past : (r : Registers) (p q : Place) {n : ℕ} → p ≡ q → length (rowIn r q) ≡ n → n ≤ numberOf q → 0 ≡ valueIn r p
+pub value-past : (r : Registers) (p q : Place) {n : ℕ} → p ≡ q → length (rowIn r q) ≡ n → n ≤ numberInRow q → 0 ≡ valueIn r p
 unfolding valueIn
 value-past r p q e l h = rw e (sym (List·getD-eq-default (rowIn r q) 0 (omega arith)))
 
-pub stored-past : (r : Registers) (p : Place) (v : ℕ) {n : ℕ} → length (rowIn r p) ≡ n → n ≤ numberOf p → r ≡ storeIn r p v
+pub stored-past : (r : Registers) (p : Place) (v : ℕ) {n : ℕ} → length (rowIn r p) ≡ n → n ≤ numberInRow p → r ≡ storeIn r p v
 unfolding storeIn
-stored-past r p v l h = rw (set-out (rowIn r p) (numberOf p) (keptAt p v) (omega arith), set-getD (rows r) (rowOf p) [])
+stored-past r p v l h = rw (set-out (rowIn r p) (numberInRow p) (keptAt p v) (omega arith), set-getD (rows r) (rowOf p) [])
 
 -- lists: one number of one row set, a bound on what is set, and zeros
 pub set-row : (l : List (List ℕ)) (i k v : ℕ) → getD (set l i (set (getD l i []) k v)) i [] ≡ set (getD l i []) k v
@@ -43,10 +43,10 @@ fitted true v h = omega arith
 fitted false v h = refl
 
 -- the rows after a store: one number of the place's row is set
-pub rows-stored : (r : Registers) (p : Place) (v : ℕ) → rows (storeIn r p v) ≡ set (rows r) (rowOf p) (set (rowIn r p) (numberOf p) (keptAt p v))
+pub rows-stored : (r : Registers) (p : Place) (v : ℕ) → rows (storeIn r p v) ≡ set (rows r) (rowOf p) (set (rowIn r p) (numberInRow p) (keptAt p v))
 unfolding storeIn
 rows-stored r Reserved v = refl
-rows-stored r (Screen k) v = refl
+rows-stored r (Parameter k) v = refl
 rows-stored r Mask v = refl
 rows-stored r Control v = refl
 rows-stored r Top v = refl

@@ -8,23 +8,23 @@ use native.Mathlib.Omega.{arith}
 use lib.ListN.{length, getD, set, length-set, length-replicate}
 use lib.Seq.{getD-set-same, getD-set-other}
 use borrow.Author.Tests.{eqb-false}
-use Rattle.map.specs.declared.Place.{Place}
-use Rattle.map.specs.declared.Place.the-variants.{Reserved, Screen, Mask, Control, Top, Colour, Checksum, Position, Palette, Store}
+use Rattle.registers.specs.declared.map.Place.{Place}
+use Rattle.registers.specs.declared.map.Place.the-variants.{Reserved, Parameter, Mask, Control, Top, Colour, Checksum, Position, Palette, Store}
 use Rattle.registers.specs.declared.Registers.{Registers}
-use Rattle.map.specs.Map.{placeOf, rowOf, numberOf, isParameter, isControl, isChecksum, isStore, isReserved, widest, Storable}
-use Rattle.registers.specs.File.{zeros, rows, rowIn, valueIn, keptAt, storeIn, Held}
-use Rattle.map.proofs.Cases.{equal, apart, Found, found}
-use Rattle.map.proofs.Laws.{is-control}
+use Rattle.registers.specs.Map.{placeOf, rowOf, numberInRow, isParameter, isControl, isChecksum, isStore, isReserved, widest, Storable}
+use Rattle.registers.specs.File.{zeros, rows, rowIn, valueIn, keptAt, storeIn, InWidths}
+use Rattle.registers.proofs.map.Cases.{equal, apart, Found, found}
+use Rattle.registers.proofs.map.Laws.{is-control}
 use Rattle.registers.proofs.Cases.{set-row, set-bound, zero-at, fitted, rows-stored}
 
 module _ (r : Registers) (p : Place) (v : ℕ) where
   -- the place's own row has the value, and every other row stands
-  row-stored : rowIn (storeIn r p v) p ≡ set (rowIn r p) (numberOf p) (keptAt p v)
-  row-stored = ap (λ (l : List (List ℕ)). getD l (rowOf p) []) (rows-stored r p v) ∙ set-row (rows r) (rowOf p) (numberOf p) (keptAt p v)
+  row-stored : rowIn (storeIn r p v) p ≡ set (rowIn r p) (numberInRow p) (keptAt p v)
+  row-stored = ap (λ (l : List (List ℕ)). getD l (rowOf p) []) (rows-stored r p v) ∙ set-row (rows r) (rowOf p) (numberInRow p) (keptAt p v)
 
-  value-stored : valueIn (storeIn r p v) p ≡ getD (set (rowIn r p) (numberOf p) (keptAt p v)) (numberOf p) 0
+  value-stored : valueIn (storeIn r p v) p ≡ getD (set (rowIn r p) (numberInRow p) (keptAt p v)) (numberInRow p) 0
   unfolding valueIn
-  value-stored = ap (λ (l : List ℕ). getD l (numberOf p) 0) row-stored
+  value-stored = ap (λ (l : List ℕ). getD l (numberInRow p) 0) row-stored
 
   pub row-kept : (i : ℕ) → (i ≡ rowOf p → ⊥) → getD (rows (storeIn r p v)) i [] ≡ getD (rows r) i []
   row-kept i d = ap (λ (l : List (List ℕ)). getD l i []) (rows-stored r p v) ∙ getD-set-other (rows r) (rowOf p) i _ [] d
@@ -33,16 +33,16 @@ module _ (r : Registers) (p : Place) (v : ℕ) where
   row-length : (i : ℕ) → length (getD (rows (storeIn r p v)) i []) ≡ length (getD (rows r) i [])
   row-length i =
       ⊎-elim
-      (λ e. rw e (ap length row-stored ∙ length-set (rowIn r p) (numberOf p) (keptAt p v)))
+      (λ e. rw e (ap length row-stored ∙ length-set (rowIn r p) (numberInRow p) (keptAt p v)))
       (λ d. ap length (row-kept i d))
       (equal i (rowOf p) _ refl)
 
-  kept-apart : (q : Place) → (rowOf q ≡ rowOf p → ⊥) ⊎ ((rowOf q ≡ rowOf p) × (numberOf q ≡ numberOf p → ⊥)) → valueIn (storeIn r p v) q ≡ valueIn r q
+  kept-apart : (q : Place) → (rowOf q ≡ rowOf p → ⊥) ⊎ ((rowOf q ≡ rowOf p) × (numberInRow q ≡ numberInRow p → ⊥)) → valueIn (storeIn r p v) q ≡ valueIn r q
   unfolding valueIn
-  kept-apart q (inl d) = ap (λ (l : List ℕ). getD l (numberOf q) 0) (row-kept (rowOf q) d)
+  kept-apart q (inl d) = ap (λ (l : List ℕ). getD l (numberInRow q) 0) (row-kept (rowOf q) d)
   kept-apart q (inr d) =
       rw (d .0)
-      (ap (λ (l : List ℕ). getD l (numberOf q) 0) row-stored ∙ getD-set-other (rowIn r p) (numberOf p) (numberOf q) (keptAt p v) 0 (d .1))
+      (ap (λ (l : List ℕ). getD l (numberInRow q) 0) row-stored ∙ getD-set-other (rowIn r p) (numberInRow p) (numberInRow q) (keptAt p v) 0 (d .1))
 
   -- a store leaves what stands at every other place
   pub kept : (q : Place) → (q ≡ p → ⊥) → valueIn (storeIn r p v) q ≡ valueIn r q
@@ -61,9 +61,9 @@ module _ (r : Registers) (p : Place) (v : ℕ) where
   params-kept e = row-kept 0 (λ i. eqb-false (rowOf p) 0 e (sym i))
 
 -- the file begins as every register file is
-pub zeros-held : Held zeros
+pub zeros-in-widths : InWidths zeros
 unfolding zeros
-zeros-held =
+zeros-in-widths =
     record {
       params-length = length-replicate {A = ℕ} 14 0;
       colours-length = length-replicate {A = ℕ} 3 0;
@@ -80,10 +80,10 @@ zeros-held =
     }
 
 -- each value is within its place's width
-within : (r : Registers) → Held r → (q : Place) → valueIn r q ≤ widest q
+within : (r : Registers) → InWidths r → (q : Place) → valueIn r q ≤ widest q
 unfolding valueIn
 within r h Reserved = omega arith
-within r h (Screen k) = h .params k
+within r h (Parameter k) = h .params k
 within r h Mask = h .mask
 within r h Control = h .control
 within r h Top = h .top
@@ -94,9 +94,9 @@ within r h (Palette k) = h .palette k
 within r h (Store k) = h .store k
 
 -- the number of a place of the map is below its row's length
-fits : (r : Registers) (a : ℕ) (p : Place) → Held r → Found a p → isReserved p ≡ false → isChecksum p ≡ false → numberOf p < length (rowIn r p)
+fits : (r : Registers) (a : ℕ) (p : Place) → InWidths r → Found a p → isReserved p ≡ false → isChecksum p ≡ false → numberInRow p < length (rowIn r p)
 fits r a Reserved h f s t = absurd (true≢false s)
-fits r a (Screen k) h f s t = omega (arith, h .params-length, f .address, f .high)
+fits r a (Parameter k) h f s t = omega (arith, h .params-length, f .address, f .high)
 fits r a Mask h f s t = omega arith
 fits r a Control h f s t = omega arith
 fits r a Top h f s t = omega arith
@@ -108,9 +108,9 @@ fits r a (Store k) h f s t = omega (arith, h .store-length, f .address, f .high)
 
 stored-bound : (r : Registers) (p : Place) (v most : ℕ) → valueIn r p ≤ most → keptAt p v ≤ most → valueIn (storeIn r p v) p ≤ most
 unfolding valueIn
-stored-bound r p v most h b = subst (λ (n : ℕ). n ≤ most) (sym (value-stored r p v)) (set-bound (rowIn r p) (numberOf p) (keptAt p v) most h b)
+stored-bound r p v most h b = subst (λ (n : ℕ). n ≤ most) (sym (value-stored r p v)) (set-bound (rowIn r p) (numberInRow p) (keptAt p v) most h b)
 
-bounded : (r : Registers) (p : Place) (v : ℕ) → Held r → Storable p v → (q : Place) → valueIn (storeIn r p v) q ≤ widest q
+bounded : (r : Registers) (p : Place) (v : ℕ) → InWidths r → Storable p v → (q : Place) → valueIn (storeIn r p v) q ≤ widest q
 bounded r p v h s q =
     ⊎-elim
     (λ e. rw e (stored-bound r p v (widest p) (within r h p) (omega (arith, s .narrow, fitted (isStore p) v (s .narrow)))))
@@ -118,16 +118,16 @@ bounded r p v h s q =
     (apart p q)
 
 -- a store of a value that its place holds keeps all that
-pub stored-held : (r : Registers) (p : Place) (v : ℕ) → Held r → Storable p v → Held (storeIn r p v)
+pub stored-in-widths : (r : Registers) (p : Place) (v : ℕ) → InWidths r → Storable p v → InWidths (storeIn r p v)
 unfolding valueIn
-stored-held r p v h s =
+stored-in-widths r p v h s =
     let bound : (q : Place) → valueIn (storeIn r p v) q ≤ widest q = bounded r p v h s in
     record {
       params-length = row-length r p v 0 ∙ h .params-length;
       colours-length = row-length r p v 4 ∙ h .colours-length;
       palette-length = row-length r p v 7 ∙ h .palette-length;
       store-length = row-length r p v 8 ∙ h .store-length;
-      params = λ k. bound (Screen k);
+      params = λ k. bound (Parameter k);
       mask = bound Mask;
       control = bound Control;
       top = bound Top;
@@ -138,9 +138,9 @@ stored-held r p v h s =
     }
 
 -- what was stored at an address of the map stands there
-pub back : (r : Registers) (a v : ℕ) → Held r → Storable (placeOf a) v → isReserved (placeOf a) ≡ false → isChecksum (placeOf a) ≡ false → valueIn (storeIn r (placeOf a) v) (placeOf a) ≡ v
+pub back : (r : Registers) (a v : ℕ) → InWidths r → Storable (placeOf a) v → isReserved (placeOf a) ≡ false → isChecksum (placeOf a) ≡ false → valueIn (storeIn r (placeOf a) v) (placeOf a) ≡ v
 back r a v h s t u =
     let p = placeOf a in
     value-stored r p v
-    ∙ getD-set-same (rowIn r p) (numberOf p) (keptAt p v) 0 (fits r a p h (found a t) t u)
+    ∙ getD-set-same (rowIn r p) (numberInRow p) (keptAt p v) 0 (fits r a p h (found a t) t u)
     ∙ fitted (isStore p) v (s .narrow)

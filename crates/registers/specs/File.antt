@@ -4,9 +4,9 @@ use mathlib.Core.Path.{_≡_}
 use mathlib.Core.Bool.{cond}
 use mathlib.Core.List.{List, [], _∷_}
 use lib.ListN.{length, getD, set, replicate}
-use Rattle.map.specs.declared.Place.{Place}
+use Rattle.registers.specs.declared.map.Place.{Place}
 use Rattle.registers.specs.declared.Registers.{Registers}
-use Rattle.map.specs.Map.{rowOf, numberOf, isStore}
+use Rattle.registers.specs.Map.{rowOf, numberInRow, isStore}
 
 -- all registers begin at 0
 unfoldable pub zeros : Registers
@@ -56,7 +56,7 @@ rowIn r p = getD (rows r) (rowOf p) []
 
 -- what stands at a place; 0 where nothing stands in the file
 unfoldable pub valueIn : Registers → Place → ℕ
-valueIn r p = getD (rowIn r p) (numberOf p) 0
+valueIn r p = getD (rowIn r p) (numberInRow p) 0
 
 -- what a place keeps of a value: the cursor store has 16 bits
 abbrev pub keptAt : Place → ℕ → ℕ
@@ -64,10 +64,10 @@ keptAt p v = cond (isStore p) (v % 2 ^ 16) v
 
 -- the file with a value at a place, and every other register as it was; the same file where the place is not in it
 unfoldable pub storeIn : Registers → Place → ℕ → Registers
-storeIn r p v = file (set (rows r) (rowOf p) (set (rowIn r p) (numberOf p) (keptAt p v)))
+storeIn r p v = file (set (rows r) (rowOf p) (set (rowIn r p) (numberInRow p) (keptAt p v)))
 
 -- what every register file of the machine satisfies: its arrays' lengths, and each register within its width
-pub record Held (r : Registers) : Type 0 where
+pub record InWidths (r : Registers) : Type 0 where
   pub params-length : length (r .params) ≡ 14
   pub colours-length : length (r .colours) ≡ 3
   pub palette-length : length (r .palette) ≡ 256

@@ -1,8 +1,10 @@
 // The register file (01, "Register map"): the registers by value.
+pub mod map;
+
 ghost use mathlib.Core.Path.{_≡_};
 ghost use Rattle.registers.specs.File.{zeros, valueIn, storeIn};
-ghost use Rattle.map.specs.declared.Place.the-variants.{Screen, Colour, Palette, Store};
-use map::Place;
+ghost use Rattle.registers.specs.declared.map.Place.the-variants.{Parameter, Colour, Palette, Store};
+use crate::map::Place;
 
 pub struct Registers {
     pub params: [u32; 14],
@@ -38,7 +40,7 @@ impl Registers {
     {
         match p {
             Place::Reserved => 0,
-            Place::Screen(k) => {
+            Place::Parameter(k) => {
                 let i = k as usize;
                 if i < 14 { self.params[i] } else { 0 }
             }
@@ -64,7 +66,7 @@ impl Registers {
 
     // The file with a parameter changed.
     fn with_parameter(self, k: u32, v: u32) -> Registers
-        ensures file { λ r. ⌜ r ≡ storeIn self (Screen k) v ⌝ }
+        ensures file { λ r. ⌜ r ≡ storeIn self (Parameter k) v ⌝ }
     {
         let mut r = self;
         let i = k as usize;
@@ -122,7 +124,7 @@ impl Registers {
         let mut r = self;
         match p {
             Place::Reserved => r,
-            Place::Screen(k) => self.with_parameter(k, v),
+            Place::Parameter(k) => self.with_parameter(k, v),
             Place::Mask => {
                 r.mask = v;
                 r

@@ -1,20 +1,19 @@
--- What a page says, case by case. Assumes nothing.
+-- What is shown on a page, case by case. Assumes nothing.
 use Prim.Native.Nat.{ℕ}
-use mathlib.Core.List.{List, [], _∷_}
-use mathlib.Core.Path.{_≡_, refl}
+use mathlib.Core.List.{[], _∷_}
+use mathlib.Core.Path.{_≡_}
 use lib.Dec.{eqb}
 use borrow.Author.Tests.{eq-eqb, ne-eqb}
 use Rattle.text.specs.Ascii.{ascii}
-use Rattle.room.specs.Room.{putTexts, putEnds}
-use Rattle.says.specs.Notes.{refusedTexts}
-use Rattle.says.specs.Answers.{lineTexts}
-use Rattle.wave.specs.Waveform.{tickTexts}
+use Rattle.report.specs.Notes.{refusedTexts}
+use Rattle.report.specs.TickLines.{tickLineTexts}
+use Rattle.waveform.specs.Waveform.{tickTexts}
 use Rattle.signals.specs.declared.Signals.{Signals}
 use Rattle.report.specs.declared.Page.{Page}
 use Rattle.report.specs.Pages.{verdictTexts, stepTexts}
 
 module _ (p : Page) (s : Signals) where
-  pub step-line : p .form ≡ 0 → stepTexts p s ≡ lineTexts s
+  pub step-line : p .form ≡ 0 → stepTexts p s ≡ tickLineTexts s
   unfolding stepTexts
   step-line h = simp (eq-eqb (p .form) 0 h)
 
@@ -39,8 +38,3 @@ module _ (form line refusal : ℕ) where
   pub verdict-none : refusal ≡ 0 → (form ≡ 0 → ⊥) → verdictTexts form line refusal ≡ []
   unfolding verdictTexts
   verdict-none h k = simp (eq-eqb refusal 0 h, ne-eqb form 0 k)
-
--- nothing put
-pub none-put : (room : List ℕ) (at : ℕ) → (at ≡ putEnds room at []) × (room ≡ putTexts room at [])
-unfolding putEnds putTexts
-none-put room at = (refl, refl)

@@ -1,2 +1,3 @@
--- Laws of a page.
+-- Laws of what is shown of a script.
 mod Cases
+mod NoteCases

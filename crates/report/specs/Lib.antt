@@ -1,2 +1,5 @@
--- What a session has said so far.
+-- What is shown of a script, in each form.
 pub mod Pages
+pub mod Phrases
+pub mod Notes
+pub mod TickLines

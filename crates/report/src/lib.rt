@@ -1,11 +1,12 @@
-// A page: what a session has said so far, and what it says next, by its form.
+// What is shown of a script, in each of the three forms that the programs write.
+mod notes;
+pub mod phrases;
+mod ticks;
+
 ghost use mathlib.Core.Path.{_≡_};
 ghost use Rattle.room.specs.Room.{putTexts, putEnds};
-ghost use Rattle.says.specs.Notes.{refusedTexts, faultTexts};
+ghost use Rattle.report.specs.Notes.{refusedTexts, faultTexts};
 ghost use Rattle.report.specs.Pages.{blankPage, turned, spaced, nextLine, counted, verdictTexts, stepTexts};
-use says::ANSWERS;
-use says::PICTURE;
-use says::WAVE;
 use signals::Signals;
 
 // The form; the lines read; the bytes that wait to be written; the ticks so far and what the last one put out; the last picture's size, 0
@@ -65,7 +66,7 @@ fn count(p: Page, waiting: usize, s: Signals) -> Page
 pub fn write(p: Page, out: &[u8]) -> Page
     ensures page { λ r. ⌜ r ≡ turned p 0 ⌝ }
 {
-    let waiting = parts::lent(out, p.waiting);
+    let waiting = room::lent(out, p.waiting);
     if p.form == PICTURE {
         io::write_all(2, waiting);
     } else {
@@ -98,7 +99,7 @@ pub fn refuse(p: Page, out: &mut [u8], refusal: u32) -> Page
     ensures page { λ r. ⌜ r ≡ turned p (putEnds (now (out .entry)) (p .waiting) (refusedTexts (p .form) (p .lines) refusal)) ⌝ }
     ensures bytes { λ _. ⌜ now (out .exit) ≡ putTexts (now (out .entry)) (p .waiting) (refusedTexts (p .form) (p .lines) refusal) ⌝ }
 {
-    let end = says::notes::put_refused(out, p.waiting, p.form, p.lines, refusal);
+    let end = notes::put_refused(out, p.waiting, p.form, p.lines, refusal);
     turn(p, end)
 }
 
@@ -107,7 +108,7 @@ pub fn fault(p: Page, out: &mut [u8], fault: u32) -> Page
     ensures page { λ r. ⌜ r ≡ turned p (putEnds (now (out .entry)) (p .waiting) (faultTexts (p .form) (p .lines) fault)) ⌝ }
     ensures bytes { λ _. ⌜ now (out .exit) ≡ putTexts (now (out .entry)) (p .waiting) (faultTexts (p .form) (p .lines) fault) ⌝ }
 {
-    let end = says::notes::put_fault(out, p.waiting, p.form, p.lines, fault);
+    let end = notes::put_fault(out, p.waiting, p.form, p.lines, fault);
     turn(p, end)
 }
 
@@ -133,12 +134,19 @@ pub fn tick(p: Page, out: &mut [u8], s: Signals) -> Page
 {
     let last = p.last;
     if p.form == ANSWERS {
-        let end = says::ticks::put_tick(out, p.waiting, s);
+        let end = ticks::put_tick(out, p.waiting, s);
         return count(p, end, s);
     }
     if p.form == WAVE {
-        let end = wave::put_tick(out, p.waiting, p.ticks == 0, p.ticks, last, s);
+        let end = waveform::put_tick(out, p.waiting, p.ticks == 0, p.ticks, last, s);
         return count(p, end, s);
     }
     count(p, p.waiting, s)
 }
+
+// The forms: an answer to each command, a waveform of the ticks, the last picture.
+pub const ANSWERS: u32 = 0;
+
+pub const WAVE: u32 = 1;
+
+pub const PICTURE: u32 = 2;

@@ -6,7 +6,7 @@ use mathlib.Core.Path.{_≡_, refl, sym, _∙_}
 use native.Mathlib.Numerals.{add-one}
 use borrow.Author.Tests.{lt-ltb, le-ltb, le-leb, lt-leb}
 use lib.ListN.{length, getD, set, length-set}
-use Rattle.room.specs.Room.{laid, putText, putEnd, putTexts, putEnds}
+use Rattle.room.specs.Room.{laid, putText, putEnd, textsOf, putTexts, putEnds}
 
 module _ (byte : ℕ → ℕ) (room : List ℕ) (at : ℕ) where
   pub laid-none : room ≡ laid byte room at 0
@@ -71,10 +71,17 @@ put-joined {room} {firsts = firsts} {laters = laters} {at = at} first later =
       bytes = rw (first .place, first .bytes) at (later .bytes) ∙ sym (joined .1);
     }
 
--- texts that are still to be put come to a room and a place
-abbrev pub Owes : List ℕ → ℕ → List (List ℕ) → List ℕ → ℕ → Type 0
-Owes room at texts after end = (putTexts room at texts ≡ after) × (putEnds room at texts ≡ end)
+-- no text put
+pub none-put : (room : List ℕ) (at : ℕ) → (at ≡ putEnds room at []) × (room ≡ putTexts room at [])
+unfolding putTexts putEnds
+none-put room at = (refl, refl)
 
-module _ (room : List ℕ) (at : ℕ) where
-  pub owes-all : (texts : List (List ℕ)) → Owes room at texts (putTexts room at texts) (putEnds room at texts)
-  owes-all texts = (refl, refl)
+-- the texts of many things, put thing by thing
+module _ (texts : ℕ → List (List ℕ)) (room : List ℕ) (at : ℕ) where
+  pub some-none : Puts room at (textsOf texts 0) room at
+  unfolding textsOf putTexts putEnds
+  some-none = record { place = refl; bytes = refl }
+
+  pub some-next : (i : ℕ) (between after : List ℕ) (middle end : ℕ) → Puts room at (textsOf texts i) between middle → Puts between middle (texts i) after end → Puts room at (textsOf texts (i + 1)) after end
+  unfolding textsOf
+  some-next i between after middle end first later = rw (add-one i) (put-joined first later)

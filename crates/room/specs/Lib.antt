@@ -1,2 +1,3 @@
--- Bytes put into a lent room.
+-- Lent bytes: texts put into them, and numbers as bytes.
 pub mod Room
+pub mod Bytes

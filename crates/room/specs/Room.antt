@@ -1,7 +1,7 @@
 -- Bytes put into a lent room. Assumes nothing.
 use Prim.Native.Nat.{ℕ, zero, suc, _+_, _-_, _≤_}
 use mathlib.Core.Bool.{Bool, cond, _&&_}
-use mathlib.Core.List.{List, [], _∷_}
+use mathlib.Core.List.{List, [], _∷_, _++_}
 use mathlib.Core.Path.{_≡_}
 use lib.Dec.{ltb, leb}
 use lib.ListN.{length, getD, set}
@@ -23,6 +23,11 @@ putText room at text = cond (fits room at (length text)) (laid (λ i. getD text 
 unfoldable pub putEnd : List ℕ → ℕ → ℕ → ℕ
 putEnd room at count = cond (ltb (length room) at) (length room) (cond (ltb (length room - at) count) at (at + count))
 
+-- the texts that n things have, each after those of the one before
+unfoldable pub textsOf : (ℕ → List (List ℕ)) → ℕ → List (List ℕ)
+textsOf texts zero = []
+textsOf texts (suc i) = textsOf texts i ++ texts i
+
 -- texts put one after the other, each where the one before ended: the room after them, and the place past the last
 unfoldable pub putTexts : List ℕ → ℕ → List (List ℕ) → List ℕ
 putTexts room at [] = room
@@ -33,6 +38,6 @@ putEnds room at [] = at
 putEnds room at (text ∷ rest) = putEnds (putText room at text) (putEnd room at (length text)) rest
 
 -- a place within a room whose length is kept
-pub record Inside (before after : List ℕ) (place : ℕ) : Type 0 where
+pub record KeptRoom (before after : List ℕ) (place : ℕ) : Type 0 where
   pub end : place ≤ length before
   pub same : length after ≡ length before

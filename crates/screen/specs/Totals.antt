@@ -2,18 +2,18 @@
 use Prim.Native.Nat.{ℕ, _+_, _-_, _*_, _/_}
 use mathlib.Core.Bool.{cond}
 use lib.Dec.{eqb}
-use Rattle.units.specs.Parameters.{halfTicks, halvesInFrame, rowLength}
-use Rattle.limits.specs.Limits.{limitOf}
+use Rattle.units.specs.Parameters.{halfTicks, halvesInFrame, displayedLines, rowLength}
+use Rattle.screen.specs.Limits.{limitOf}
 use Rattle.units.specs.declared.Screen.{Screen}
-use Rattle.screen.specs.declared.Totals.{Totals}
+use Rattle.screen.specs.declared.totals.Totals.{Totals}
 
 -- half the line time times the sum of the five half-line counts
 abbrev pub frameTicks : Screen → ℕ
 frameTicks s = halfTicks s * halvesInFrame s
 
--- Display for each displayed line, which is two half lines
+-- Display for each displayed line
 abbrev pub frameVisible : Screen → ℕ
-frameVisible s = s .display .0 * (s .vdisplay .0 / 2)
+frameVisible s = s .display .0 * displayedLines s
 
 -- n over d, rounded up
 abbrev pub roundedUp : ℕ → ℕ → ℕ

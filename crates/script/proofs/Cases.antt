@@ -4,9 +4,9 @@ use mathlib.Core.List.{List}
 use mathlib.Core.Path.{_≡_}
 use borrow.Author.Tests.{lt-ltb, le-ltb}
 use lib.ListN.{length}
-use Rattle.number.specs.Faults.{tooLong}
-use Rattle.command.specs.Commands.{faulty, commandOf}
-use Rattle.command.specs.declared.Command.{Command}
+use Rattle.words.specs.Faults.{tooLong}
+use Rattle.script.specs.Commands.{faulty, commandOf}
+use Rattle.script.specs.declared.command.Command.{Command}
 use Rattle.script.specs.Script.{lineCommand}
 
 module _ (line : List ℕ) (memory : ℕ) (r : Command) where

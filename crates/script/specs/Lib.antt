@@ -1,2 +1,5 @@
--- The lines of the bench script.
+-- The lines of a bench script and their commands: names, numbers and faults.
 pub mod Script
+pub mod Commands
+pub mod Names
+pub mod Arguments

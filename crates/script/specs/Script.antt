@@ -1,12 +1,12 @@
--- A whole line of the bench script (console.md): skipped, too long, or a command. Assumes nothing.
+-- A whole line of the bench script (docs/SCRIPT.md): skipped, too long, or a command. Assumes nothing.
 use Prim.Native.Nat.{ℕ}
 use mathlib.Core.Bool.{Bool, true, cond, _&&_}
 use mathlib.Core.List.{List}
 use lib.Dec.{ltb, leb, eqb}
 use lib.ListN.{length, getD}
-use Rattle.number.specs.Faults.{tooLong}
-use Rattle.command.specs.Commands.{faulty, commandOf}
-use Rattle.command.specs.declared.Command.{Command}
+use Rattle.words.specs.Faults.{tooLong}
+use Rattle.script.specs.Commands.{faulty, commandOf}
+use Rattle.script.specs.declared.command.Command.{Command}
 
 -- a line that answers nothing: empty, or a remark
 abbrev pub skipped : List ℕ → Bool

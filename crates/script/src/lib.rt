@@ -1,8 +1,12 @@
-// The lines of a bench script (console.md): those that answer nothing, and the command of any other.
+// The lines of a bench script (docs/SCRIPT.md): those that answer nothing, and the command of any other.
+pub mod command;
+pub mod names;
+mod numbers;
+
 ghost use mathlib.Core.Path.{_≡_};
 ghost use Rattle.script.specs.Script.{skipped, lineCommand, ticksOf};
-use command::Command;
-use names::UNKNOWN;
+use crate::command::Command;
+use crate::names::UNKNOWN;
 
 // A line that answers nothing: empty, or a remark.
 pub fn is_skipped(line: &[u8]) -> bool

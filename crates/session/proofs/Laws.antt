@@ -7,20 +7,21 @@ use lib.ListN.{length, take}
 use native.Mathlib.Omega.{arith}
 use borrow.Author.Tests.{eq-eqb, ne-eqb}
 use Rattle.machine.specs.declared.Machine.{Machine}
-use Rattle.command.specs.declared.Command.{Command}
+use Rattle.script.specs.declared.command.Command.{Command}
+use Rattle.script.specs.Names.{kindOf, runsTicks}
 use Rattle.script.specs.Script.{skipped, lineCommand, ticksOf}
-use Rattle.deeds.specs.declared.Done.{Done}
-use Rattle.deeds.specs.Deeds.{kindOf, runDone}
-use Rattle.deeds.proofs.Laws.{Does, does-tick}
-use Rattle.session.specs.Lines.{lineDone, lineMemory, linePicture}
+use Rattle.changes.specs.declared.Done.{Done}
+use Rattle.changes.specs.Changes.{runDone}
+use Rattle.changes.proofs.Laws.{Does, does-tick}
+use Rattle.session.specs.Session.{lineDone, lineMemory, linePicture}
 
 -- ticks are shown only where a command runs some
-pub shown-runs : (b : Bool) (k e : ℕ) → e ≡ cond b k 0 → e ≡ 2 → k ≡ 2
+pub shown-runs : (b : Bool) (k e : ℕ) → e ≡ cond b k 0 → e ≡ runsTicks → k ≡ runsTicks
 shown-runs true k e h z = sym h ∙ z
 shown-runs false k e h z = absurd (omega arith)
 
 -- ticks shown, with a part of the memory that is the bytes lent, are what the command does
-pub shown-does : (c : Command) (m : Machine) (lent : ℕ) (memory picture part : List ℕ) → part ≡ take lent memory → (count : ℕ) → count ≡ ticksOf c → (k : ℕ) → k ≡ kindOf (c .name) → k ≡ 2 → (d : Done) → d ≡ runDone m lent part count → Does c m lent memory picture d memory picture
+pub shown-does : (c : Command) (m : Machine) (lent : ℕ) (memory picture part : List ℕ) → part ≡ take lent memory → (count : ℕ) → count ≡ ticksOf c → (k : ℕ) → k ≡ kindOf (c .name) → k ≡ runsTicks → (d : Done) → d ≡ runDone m lent part count → Does c m lent memory picture d memory picture
 shown-does c m lent memory picture part eb count ec k ek h d e =
     let t = does-tick c m lent memory picture k ek h in
     (e ∙ ap (λ (b : List ℕ). runDone m lent b count) eb ∙ ap (runDone m lent (take lent memory)) ec ∙ sym (t .0), t .1)

@@ -1,2 +1,2 @@
 -- What a line of a script does.
-pub mod Lines
+pub mod Session

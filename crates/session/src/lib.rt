@@ -1,39 +1,34 @@
-// A session over a script (console.md), in one of three forms: answers, a waveform of the ticks, or the last picture.
+// A whole script (docs/SCRIPT.md), from standard input, in one of three forms: answers, a waveform of the ticks, or the last picture.
 ghost use Prim.Native.Nat.{_≤_};
 ghost use mathlib.Core.Path.{_≡_};
 ghost use lib.ListN.{length};
-ghost use Rattle.counters.specs.Sound.{Sound};
-ghost use Rattle.keep.specs.Keep.{keptMemory};
-ghost use Rattle.deeds.specs.Deeds.{runDone, doneOf, pictureAfter};
-ghost use Rattle.session.specs.Lines.{lineDone, lineMemory, linePicture};
-use command::Command;
-use deeds::Done;
+ghost use Rattle.generator.specs.Sound.{Sound};
+ghost use Rattle.changes.specs.LentMemory.{memoryAfter};
+ghost use Rattle.changes.specs.Changes.{runDone, doneOf, pictureAfter};
+ghost use Rattle.session.specs.Session.{lineDone, lineMemory, linePicture};
+use changes::Done;
+use input::LINE;
 use machine::Machine;
+use report::ANSWERS;
+use report::PICTURE;
 use report::Page;
-use says::ANSWERS;
-use says::PICTURE;
-use says::WAVE;
+use report::WAVE;
+use script::command::Command;
+use script::names;
+use text::ppm;
 
-// What the last command has done, the machine and the memory lent with it; and what has been said.
+// What the last command has done, the machine and the memory lent with it; and what has been shown.
 struct Desk {
     done: Done,
     page: Page,
 }
 
-// The desk, and the bytes held of a line that has not ended.
-struct Left {
-    desk: Desk,
-    held: usize,
-}
-
-// The largest memory, the largest picture, what may wait to be written, and a line with its end and one byte more.
+// The largest memory, the largest picture, and what may wait to be written.
 const MEMORY: usize = 1048576;
 
 const PICTURE_BYTES: usize = 3145728;
 
 const ROOM: usize = 65536;
-
-const LINE: usize = 1002;
 
 fn memory_room() -> [u8; MEMORY] {
     [0; MEMORY]
@@ -44,7 +39,7 @@ fn picture_room() -> [u8; PICTURE_BYTES] {
 }
 
 // One tick's signals, or its refusal.
-fn told(p: Page, out: &mut [u8; ROOM], refusal: u32, s: signals::Signals) -> Page {
+fn show_tick(p: Page, out: &mut [u8; ROOM], refusal: u32, s: signals::Signals) -> Page {
     let page = report::space(p, out);
     if refusal == 0 {
         return report::tick(page, out, s);
@@ -63,11 +58,11 @@ fn ticks(d: Desk, memory: &[u8], out: &mut [u8; ROOM], count: u32) -> Desk
     let mut page = d.page;
     let mut ticks: u32 = 0;
     while ticks < count {
-        let next = acts::tick(machine, memory);
+        let next = calls::tick(machine, memory);
         let refusal = next.refusal;
         let signals = next.signals;
         machine = next.machine;
-        page = told(page, out, refusal, signals);
+        page = show_tick(page, out, refusal, signals);
         if refusal != 0 {
             let done = Done {
                 refusal,
@@ -88,8 +83,8 @@ fn ticks(d: Desk, memory: &[u8], out: &mut [u8; ROOM], count: u32) -> Desk
     Desk { done, page }
 }
 
-// What a run that is not shown says: in answers how many ticks it has done. Its line is kept only there.
-fn ran(p: Page, out: &mut [u8; ROOM], done: u32, refusal: u32) -> Page {
+// A run that is not shown: in answers how many ticks it has done. Its line is kept only there.
+fn show_run(p: Page, out: &mut [u8; ROOM], done: u32, refusal: u32) -> Page {
     let end = text::put_count(out, p.waiting, b"ran ", done as u64);
     let waiting = base::choose(p.form == ANSWERS, end as u64, p.waiting as u64);
     let page = report::turn(p, waiting as usize);
@@ -99,25 +94,27 @@ fn ran(p: Page, out: &mut [u8; ROOM], done: u32, refusal: u32) -> Page {
     report::refuse(page, out, refusal)
 }
 
-// `picture LENGTH`: the size of a picture that was drawn is kept.
-fn pictured(
+// `picture LENGTH`: a picture that was drawn is shown, and its size kept.
+fn show_picture(
     p: Page,
     m: Machine,
     picture: &[u8; PICTURE_BYTES],
     out: &mut [u8; ROOM],
     refusal: u32,
     length: u32,
-) -> Page {
-    let mut kept = p;
-    let size = acts::size_of(m);
-    kept.width = base::choose(refusal == 0, size.width, kept.width);
-    kept.height = base::choose(refusal == 0, size.height, kept.height);
-    let bytes = parts::lent(picture, length as usize);
-    asks::shown(kept, out, refusal, bytes)
+) -> Page
+    requires { ⌜ Sound (m .regs) (m .generator) ⌝ }
+{
+    let mut page = p;
+    let size = calls::size_of(m);
+    page.width = base::choose(refusal == 0, size.width, page.width);
+    page.height = base::choose(refusal == 0, size.height, page.height);
+    let bytes = room::lent(picture, length as usize);
+    questions::show_bytes(page, out, refusal, bytes)
 }
 
-// What a command that has done something, or has only asked, says.
-fn said(
+// What is shown of a command that has done something, or has only asked.
+fn show_result(
     p: Page,
     c: Command,
     done: Done,
@@ -128,17 +125,17 @@ fn said(
 {
     let kind = names::kind_of(c.name);
     let refusal = done.refusal;
-    if kind == 2 {
-        return ran(p, out, done.ticks, refusal);
+    if kind == names::RUNS_TICKS {
+        return show_run(p, out, done.ticks, refusal);
     }
     let machine = done.machine;
-    if kind == 3 {
+    if kind == names::DRAWS_PICTURE {
         let left = c.left;
         let values = left.values;
-        return pictured(p, machine, picture, out, refusal, values[0]);
+        return show_picture(p, machine, picture, out, refusal, values[0]);
     }
-    if kind == 4 {
-        return asks::asked(p, c, machine, out);
+    if kind == names::ONLY_ASKS {
+        return questions::answer(p, c, machine, out);
     }
     report::verdict(p, out, refusal)
 }
@@ -149,7 +146,7 @@ fn is_shown(form: u32, name: u32) -> bool {
 }
 
 // A good command.
-fn acted(
+fn do_command(
     d: Desk,
     c: Command,
     memory: &mut [u8; MEMORY],
@@ -158,7 +155,7 @@ fn acted(
 ) -> Desk
     requires { ⌜ Sound (d .done .machine .regs) (d .done .machine .generator) ⌝ }
     ensures done { λ r. ⌜ r .done ≡ doneOf c (d .done .machine) (d .done .memory) (now (memory .entry)) (length (now (picture .entry))) ⌝ }
-    ensures memory { λ _. ⌜ now (memory .exit) ≡ keptMemory c (now (memory .entry)) ⌝ }
+    ensures memory { λ _. ⌜ now (memory .exit) ≡ memoryAfter c (now (memory .entry)) ⌝ }
     ensures picture { λ _. ⌜ now (picture .exit) ≡ pictureAfter c (d .done .machine) (d .done .memory) (now (memory .entry)) (now (picture .entry)) ⌝ }
     ensures sound { λ r. ⌜ Sound (r .done .machine .regs) (r .done .machine .generator) ⌝ }
 {
@@ -166,18 +163,18 @@ fn acted(
     let p = d.page;
     let kind = names::kind_of(c.name);
     let shown = base::first(is_shown(p.form, c.name), kind, 0);
-    if shown == 2 {
-        let lent = parts::lent(memory, before.memory as usize);
+    if shown == names::RUNS_TICKS {
+        let lent = room::lent(memory, before.memory as usize);
         return ticks(d, lent, out, script::ticks_of(c));
     }
     let machine = before.machine;
-    let done = deeds::act(c, machine, before.memory, memory, picture);
-    let page = said(p, c, done, picture, out);
+    let done = changes::apply(c, machine, before.memory, memory, picture);
+    let page = show_result(p, c, done, picture, out);
     Desk { done, page }
 }
 
 // A whole line of the script.
-fn answered(
+fn do_line(
     d: Desk,
     line: &[u8],
     memory: &mut [u8; MEMORY],
@@ -198,73 +195,14 @@ fn answered(
     }
     let c = script::line_command(line, done.memory);
     if c.fault == 0 {
-        return acted(Desk { done, page }, c, memory, picture, out);
+        return do_command(Desk { done, page }, c, memory, picture, out);
     }
-    let told = report::fault(page, out, c.fault);
-    Desk { done, page: told }
-}
-
-// The lines that end in a piece of the script; what is left stands in `line`.
-fn pieced(
-    d: Desk,
-    piece: &[u8],
-    held: usize,
-    line: &mut [u8; LINE],
-    memory: &mut [u8; MEMORY],
-    picture: &mut [u8; PICTURE_BYTES],
-    out: &mut [u8; ROOM],
-) -> Left
-    requires { ⌜ Sound (d .done .machine .regs) (d .done .machine .generator) ⌝ }
-    ensures sound { λ r. ⌜ Sound (r .desk .done .machine .regs) (r .desk .done .machine .generator) ⌝ }
-{
-    let mut desk = d;
-    let mut count = held;
-    let mut at: usize = 0;
-    while at < piece.len() {
-        let taken = input::take_line(piece, at, line, count);
-        at = taken.at;
-        count = taken.length;
-        if taken.ended {
-            desk = answered(
-                desk,
-                input::line_of(line, count, true),
-                memory,
-                picture,
-                out,
-            );
-            count = 0;
-        }
-    }
-    Left { desk, held: count }
-}
-
-// The script's end: a last line may lack its own.
-fn finished(
-    left: Left,
-    line: &[u8; LINE],
-    memory: &mut [u8; MEMORY],
-    picture: &mut [u8; PICTURE_BYTES],
-    out: &mut [u8; ROOM],
-) -> Page
-    requires { ⌜ Sound (left .desk .done .machine .regs) (left .desk .done .machine .generator) ⌝ }
-{
-    let desk = left.desk;
-    let held = left.held;
-    if held == 0 {
-        return desk.page;
-    }
-    let last = answered(
-        desk,
-        input::line_of(line, held, false),
-        memory,
-        picture,
-        out,
-    );
-    last.page
+    let page = report::fault(page, out, c.fault);
+    Desk { done, page }
 }
 
 // The last time of a waveform, after its last tick; what waits is written.
-fn closed(p: Page, out: &mut [u8; ROOM]) -> Page {
+fn close(p: Page, out: &mut [u8; ROOM]) -> Page {
     if p.form == WAVE {
         let end = text::put_count(out, p.waiting, b"#", p.ticks);
         let page = report::turn(p, end);
@@ -274,67 +212,57 @@ fn closed(p: Page, out: &mut [u8; ROOM]) -> Page {
 }
 
 // A picture drawn, as a PPM on standard output; or a line on standard error.
-fn painted(p: Page, picture: &[u8; PICTURE_BYTES], out: &mut [u8; ROOM]) {
+fn write_picture(p: Page, picture: &[u8; PICTURE_BYTES], out: &mut [u8; ROOM]) {
     if (p.width == 0) | (p.height == 0) {
         io::write_all(2, b"draw: no picture was drawn\n");
         return;
     }
     let head = ppm::put_ppm(out, 0, p.width, p.height);
-    io::write_all(1, parts::lent(out, head));
+    io::write_all(1, room::lent(out, head));
     let pixels = base::product(p.width, p.height);
     let size = base::product(3, pixels);
-    io::write_all(1, parts::lent(picture, size as usize));
+    io::write_all(1, room::lent(picture, size as usize));
 }
 
 // Before a script's first line.
-fn begun(p: Page) -> Left
-    ensures sound { λ r. ⌜ Sound (r .desk .done .machine .regs) (r .desk .done .machine .generator) ⌝ }
+fn first_desk(p: Page) -> Desk
+    ensures sound { λ r. ⌜ Sound (r .done .machine .regs) (r .done .machine .generator) ⌝ }
 {
-    let machine = acts::begun();
+    let machine = calls::begin();
     let done = Done {
         refusal: 0,
         ticks: 0,
         memory: 0,
         machine,
     };
-    let desk = Desk { done, page: p };
-    Left { desk, held: 0 }
+    Desk { done, page: p }
 }
 
-// The whole script. A loop has to end, and nothing says that a script does: it counts from a number that no script uses up.
-fn course(
+// The whole script.
+fn do_script(
     p: Page,
     memory: &mut [u8; MEMORY],
     picture: &mut [u8; PICTURE_BYTES],
     out: &mut [u8; ROOM],
 ) -> Page {
+    let mut piece = io::large_buffer();
     let mut line = [0u8; LINE];
-    let mut left = begun(p);
-    let mut turns = u64::MAX;
-    while 0 < turns {
-        let mut input = io::large_buffer();
-        let got = libc::read(0, &mut input);
-        let count = io::count(got, &input);
-        let before = left.desk;
-        left = pieced(
-            before,
-            &input[..count],
-            left.held,
-            &mut line,
-            memory,
-            picture,
-            out,
-        );
-        turns = base::choose(0 < count, turns - 1, 0);
+    let mut desk = first_desk(p);
+    let mut reader = input::begin();
+    while 0 < reader.turns {
+        reader = input::next(reader, &mut piece, &mut line);
+        if input::is_line(reader) {
+            desk = do_line(desk, input::line_of(reader, &line), memory, picture, out);
+        }
     }
-    finished(left, &line, memory, picture, out)
+    desk.page
 }
 
 // A page with its head.
-fn opened(form: u32, out: &mut [u8; ROOM]) -> Page {
+fn open(form: u32, out: &mut [u8; ROOM]) -> Page {
     let page = report::blank_page(form);
     if form == WAVE {
-        let end = wave::put_head(out, 0);
+        let end = waveform::put_head(out, 0);
         return report::turn(page, end);
     }
     page
@@ -348,11 +276,11 @@ pub fn session(form: u32) -> u64
     let mut memory = memory_room();
     let mut picture = picture_room();
     let mut out = io::large_buffer();
-    let page = opened(form, &mut out);
-    let last = course(page, &mut memory, &mut picture, &mut out);
-    let end = closed(last, &mut out);
+    let page = open(form, &mut out);
+    let last = do_script(page, &mut memory, &mut picture, &mut out);
+    let end = close(last, &mut out);
     if form == PICTURE {
-        painted(end, &picture, &mut out);
+        write_picture(end, &picture, &mut out);
     }
     end.ticks
 }

@@ -8,7 +8,7 @@ use borrow.Author.Tests.{eq-eqb, le-ltb, ltb-false, eqb-true}
 use lib.Dec.{eqb, ltb, eqb·suc-zero}
 use lib.ListN.{length, getD, drop}
 use lib.Seq.{drop-cons, getD-drop}
-use Rattle.tags.specs.Encoding.{tags, fields, over, Bytes, Encodes}
+use Rattle.sheet.specs.Encoding.{tags, fields, over, Bytes, Encodes}
 use Rattle.sheet.specs.Reader.{pair, fieldRefusal, refusalFrom, valuesFrom, readSheet}
 use Rattle.sheet.specs.declared.Sheet.{Sheet}
 

@@ -4,7 +4,7 @@ use mathlib.Core.Bool.{not, cond}
 use mathlib.Core.List.{List, [], _∷_}
 use lib.Dec.{ltb, eqb}
 use lib.ListN.{length, getD, drop, replicate}
-use Rattle.tags.specs.Encoding.{tags}
+use Rattle.sheet.specs.Encoding.{tags}
 use Rattle.sheet.specs.declared.Sheet.{Sheet}
 
 -- two bytes as a number, high byte first

@@ -1,8 +1,12 @@
 // The reader of screen sheets (01, "Screen sheet"). Any bytes may be given.
+pub mod field;
+mod tags;
+pub mod writer;
+
 ghost use mathlib.Core.Path.{_≡_};
 ghost use Prim.Native.Nat.{_<_};
 ghost use lib.ListN.{getD, drop};
-ghost use Rattle.tags.specs.Encoding.{tags};
+ghost use Rattle.sheet.specs.Encoding.{tags};
 ghost use Rattle.sheet.specs.Reader.{fieldRefusal, refusalFrom, valuesFrom, readSheet};
 
 // What a sheet answers: a refusal, or 0 and the fourteen values.

@@ -1,11 +1,11 @@
 // The whole picture exported to C for docs/SPEED.md: the registers lent as they stand, the generator at the frame's start.
 ghost use mathlib.Core.Path.{_≡_};
 ghost use lib.ListN.{length};
-ghost use Rattle.counters.specs.Counters.{fresh};
-ghost use Rattle.counters.specs.Sound.{Sound};
+ghost use Rattle.generator.specs.Counters.{fresh};
+ghost use Rattle.generator.specs.Sound.{Sound};
 ghost use Rattle.picture.specs.Picture.{drawnOf, bufferOf};
 ghost use Rattle.speed.specs.Speed.{file, shown};
-use counters::Generator;
+use generator::Generator;
 use pixel::Sums;
 use registers::Registers;
 use units::HalfLines;

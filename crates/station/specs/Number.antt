@@ -2,7 +2,7 @@
 use Prim.Native.Nat.{ℕ, _+_, _*_, _^_}
 use mathlib.Core.Bool.{cond}
 use mathlib.Core.List.{List}
-use Rattle.field.specs.Field.{fieldOf}
+use Rattle.sheet.specs.Field.{fieldOf}
 use Rattle.vault.specs.Compare.{compared}
 
 -- the refusal in bits 63 to 32, the value in bits 31 to 0

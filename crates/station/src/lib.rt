@@ -1,6 +1,7 @@
 // What the station's host program calls from C (01): the comparison of checksums, and one field of a sheet. include/station.h declares both.
 ghost use mathlib.Core.Path.{_≡_};
 ghost use Rattle.station.specs.Number.{number, checksumsNumber, fieldNumber};
+use sheet::field;
 
 // The refusal above, the value below.
 fn numbered(refusal: u32, value: u32) -> u64

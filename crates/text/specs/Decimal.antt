@@ -1,4 +1,4 @@
--- Numbers in decimal digits (console.md). Assumes nothing.
+-- Numbers in decimal digits (docs/SCRIPT.md). Assumes nothing.
 use Prim.Native.Nat.{ℕ, zero, suc, _^_}
 use mathlib.Core.Bool.{cond}
 use mathlib.Core.List.{List}

@@ -1,4 +1,4 @@
--- Lines that programs write (console.md), each as its texts in order. Assumes nothing.
+-- Lines that programs write (docs/SCRIPT.md), each as its texts in order. Assumes nothing.
 use Prim.Native.Nat.{ℕ}
 use mathlib.Core.List.{List, [], _∷_}
 use Rattle.text.specs.Decimal.{decimalText}

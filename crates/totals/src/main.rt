@@ -1,5 +1,6 @@
 // Reads one screen sheet on standard input, at 8 bits, increment 1, transfers on: prints `refused N`, or the frame's four totals.
-use screen::Totals;
+use screen::totals;
+use screen::totals::Totals;
 
 // Control A at 8 bits a pixel, increment 1, transfers on.
 const EIGHT_BITS: u32 = 0x300000;
@@ -30,7 +31,7 @@ fn answer(bytes: &[u8]) {
     if sheet.refusal == 0 {
         let values = sheet.values;
         let s = units::screen_of(values);
-        shown(screen::frame_totals(EIGHT_BITS, s));
+        shown(totals::frame_totals(EIGHT_BITS, s));
         return;
     }
     refused(sheet.refusal);

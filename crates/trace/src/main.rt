@@ -1,4 +1,4 @@
 // Reads a bench script on standard input and writes a waveform (VCD) of all ticks run on standard output.
 fn main() {
-    session::session(says::WAVE);
+    session::session(report::WAVE);
 }

@@ -1,2 +1,3 @@
--- The rules of a screen's parameters.
+-- A screen's parameters, and the conversions between the three units.
 pub mod Parameters
+pub mod Units

@@ -42,6 +42,10 @@ halvesToVDisplay s = halvesToVBlank s + s .vblank .0
 abbrev pub halvesInFrame : Screen → ℕ
 halvesInFrame s = halvesToVDisplay s + s .vdisplay .0
 
+-- the lines that are displayed: a line is two half lines
+abbrev pub displayedLines : Screen → ℕ
+displayedLines s = s .vdisplay .0 / 2
+
 -- R, the row length
 abbrev pub rowLength : Screen → ℕ
 rowLength s = s .meminit .0 + s .transferdelay .0

@@ -1,6 +1,6 @@
 // A screen's counts in three units (01, "Starting a screen") and its fourteen parameters (01, "Register map").
 ghost use mathlib.Core.Path.{_≡_};
-ghost use Rattle.units.specs.Parameters.{screenOf};
+ghost use Rattle.units.specs.Parameters.{screenOf, displayedLines};
 
 // Three counts that never stand in for one another. One screen unit is one tick.
 pub struct ScreenUnits(pub u64);
@@ -47,4 +47,11 @@ pub fn screen_of(params: [u32; 14]) -> Screen
         meminit: ScreenUnits(params[12] as u64),
         transferdelay: ScreenUnits(params[13] as u64),
     }
+}
+
+// The lines of a frame that are displayed: a line is two half lines.
+pub fn displayed_lines(s: Screen) -> u64
+    ensures lines { λ r. ⌜ r ≡ displayedLines s ⌝ }
+{
+    s.vdisplay.0 / 2
 }

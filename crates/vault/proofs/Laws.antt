@@ -1,19 +1,17 @@
 -- What the rules of the checksums come to, for callers: the nine bytes tell the words apart, and equal is equal. Assumes nothing.
 use Prim.Native.Nat.{ℕ, _+_, _*_, _^_, _<_}
 use mathlib.Core.Path.{_≡_, refl, sym, _∙_, ap}
-use mathlib.Core.Bool.{Bool, true, false, _&&_, true≢false}
+use mathlib.Core.Bool.{true, false, true≢false}
 use mathlib.Core.List.{List, [], _∷_}
 use native.Mathlib.Omega.{arith}
 use borrow.Author.Tests.{eq-eqb, eqb-true}
 use lib.Dec.{eqb}
 use lib.ListN.{length, getD, drop-of-length-le}
 use lib.Seq.{drop-cons}
-use Rattle.vault.specs.Nine.{red, green, blue, nineBytes}
+use Rattle.base.specs.Channels.{red, green, blue}
+use Rattle.vault.specs.Nine.{nineBytes}
 use Rattle.vault.specs.Compare.{match, nineLong, compared}
-
-both : (a b : Bool) → (a && b) ≡ true → (a ≡ true) × (b ≡ true)
-both true b e = (refl, e)
-both false b e = absurd (true≢false (sym e))
+use Rattle.base.proofs.Bools.{both-hold}
 
 -- lists that match are equal
 pub match-equal : (a b : List ℕ) → match a b ≡ true → a ≡ b
@@ -22,7 +20,7 @@ match-equal [] [] e = refl
 match-equal [] (y ∷ b) e = absurd (true≢false (sym e))
 match-equal (x ∷ a) [] e = absurd (true≢false (sym e))
 match-equal (x ∷ a) (y ∷ b) e =
-    let parts = both (eqb x y) (match a b) e in
+    let parts = both-hold (eqb x y) (match a b) e in
     let head = eqb-true x y (parts .0) in
     let tail = match-equal a b (parts .1) in
     cc
@@ -36,8 +34,8 @@ match-self (x ∷ a) = rw (eq-eqb x x refl) (match-self a)
 -- equal is true exactly when the two are one list of nine bytes: only then, and always then
 pub equal-same : (a b : List ℕ) → compared a b .equal ≡ true → (length a ≡ 9) × (a ≡ b)
 equal-same a b e =
-    let parts = both (nineLong a b) (match a b) e in
-    (eqb-true (length a) 9 (both (eqb (length a) 9) (eqb (length b) 9) (parts .0) .0), match-equal a b (parts .1))
+    let parts = both-hold (nineLong a b) (match a b) e in
+    (eqb-true (length a) 9 (both-hold (eqb (length a) 9) (eqb (length b) 9) (parts .0) .0), match-equal a b (parts .1))
 
 pub same-equal : (a b : List ℕ) → length a ≡ 9 → a ≡ b → compared a b .equal ≡ true
 same-equal a b nine e = rw (← e, eq-eqb (length a) 9 nine) (match-self a)

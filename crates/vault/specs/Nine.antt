@@ -1,20 +1,10 @@
 -- The nine bytes to compare (01, "Rows and pixels"): #0C0, #0C1, #0C2, each red, green, blue. Assumes nothing.
-use Prim.Native.Nat.{ℕ, _/_, _%_, _^_}
+use Prim.Native.Nat.{ℕ}
 use mathlib.Core.List.{List, [], _∷_, _++_}
 use lib.ListN.{getD}
+use Rattle.base.specs.Channels.{red, green, blue}
 
--- bits 23 to 16
-abbrev pub red : ℕ → ℕ
-red word = word / 2 ^ 16 % 256
-
--- bits 15 to 8
-abbrev pub green : ℕ → ℕ
-green word = word / 2 ^ 8 % 256
-
--- bits 7 to 0
-abbrev pub blue : ℕ → ℕ
-blue word = word % 256
-
+-- of one word
 abbrev pub channels : ℕ → List ℕ
 channels word = red word ∷ green word ∷ blue word ∷ []
 

@@ -1,33 +1,13 @@
 // Checksums as the regulator compares them (01): their nine bytes, and whether two of them match. Any words and bytes may be given.
 ghost use mathlib.Core.Path.{_≡_};
-ghost use Rattle.vault.specs.Nine.{red, green, blue, nineBytes};
+ghost use Rattle.vault.specs.Nine.{nineBytes};
 ghost use Rattle.vault.specs.Compare.{compared};
+use base::channels;
 
 // A refusal, or 0 and whether the two are equal.
 pub struct Comparison {
     pub refusal: u32,
     pub equal: bool,
-}
-
-// Bits 23 to 16.
-fn red(word: u32) -> u8
-    ensures byte { λ r. ⌜ r ≡ red word ⌝ }
-{
-    (word / 0x10000 % 256) as u8
-}
-
-// Bits 15 to 8.
-fn green(word: u32) -> u8
-    ensures byte { λ r. ⌜ r ≡ green word ⌝ }
-{
-    (word / 0x100 % 256) as u8
-}
-
-// Bits 7 to 0.
-fn blue(word: u32) -> u8
-    ensures byte { λ r. ⌜ r ≡ blue word ⌝ }
-{
-    (word % 256) as u8
 }
 
 // The nine bytes to compare of #0C0, #0C1 and #0C2, as they are read.
@@ -38,15 +18,15 @@ pub fn nine(words: [u32; 3]) -> [u8; 9]
     let middle = words[1];
     let high = words[2];
     [
-        red(low),
-        green(low),
-        blue(low),
-        red(middle),
-        green(middle),
-        blue(middle),
-        red(high),
-        green(high),
-        blue(high),
+        channels::red_byte(low),
+        channels::green_byte(low),
+        channels::blue_byte(low),
+        channels::red_byte(middle),
+        channels::green_byte(middle),
+        channels::blue_byte(middle),
+        channels::red_byte(high),
+        channels::green_byte(high),
+        channels::blue_byte(high),
     ]
 }
 

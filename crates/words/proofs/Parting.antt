@@ -7,37 +7,25 @@ use native.Mathlib.Numerals.{add-one}
 use native.Mathlib.Omega.{arith}
 use lib.ListN.{length, getD, take, drop, length-append, length-drop, drop-of-length-le}
 use lib.Seq.{drop-cons, drop-length, take-append-seam, take-nil}
-use Rattle.words.specs.Words.{blank, skip, front, past, begins}
+use Rattle.words.specs.Words.{blank, pastRun, skip, front, past, begins}
 
 module _ (line : List ℕ) (i : ℕ) where
   here : i < length line → drop i line ≡ getD line i 0 ∷ drop (i + 1) line
   here h = rw (add-one) (drop-cons line i 0 h)
 
-  -- a blank is passed, any other byte is the end
-  pub skip-blank : i < length line → blank (getD line i 0) ≡ true → skip (drop (i + 1) line) ≡ skip (drop i line)
-  unfolding skip
-  skip-blank h e = rw (here h) (simp e)
+  -- a byte of the run is passed, any other is its end
+  module _ (blanks : Bool) where
+    pub run-more : i < length line → cond blanks (blank (getD line i 0)) (not (blank (getD line i 0))) ≡ true → pastRun blanks (drop (i + 1) line) ≡ pastRun blanks (drop i line)
+    unfolding pastRun
+    run-more h e = rw (here h) (simp e)
 
-  pub skip-stop : i < length line → blank (getD line i 0) ≡ false → drop i line ≡ skip (drop i line)
-  unfolding skip
-  skip-stop h e = rw (here h) (simp e)
+    pub run-stop : i < length line → cond blanks (blank (getD line i 0)) (not (blank (getD line i 0))) ≡ false → drop i line ≡ pastRun blanks (drop i line)
+    unfolding pastRun
+    run-stop h e = rw (here h) (simp e)
 
-  pub skip-end : length line ≤ i → drop i line ≡ skip (drop i line)
-  unfolding skip
-  skip-end h = rw (drop-of-length-le line h)
-
-  -- the same the other way round
-  pub past-more : i < length line → blank (getD line i 0) ≡ false → past (drop (i + 1) line) ≡ past (drop i line)
-  unfolding past
-  past-more h e = rw (here h) (simp e)
-
-  pub past-stop : i < length line → blank (getD line i 0) ≡ true → drop i line ≡ past (drop i line)
-  unfolding past
-  past-stop h e = rw (here h) (simp e)
-
-  pub past-end : length line ≤ i → drop i line ≡ past (drop i line)
-  unfolding past
-  past-end h = rw (drop-of-length-le line h)
+    pub run-end : length line ≤ i → drop i line ≡ pastRun blanks (drop i line)
+    unfolding pastRun
+    run-end h = rw (drop-of-length-le line h)
 
   -- a turn of the count
   pub count-turn : (count total : ℕ) (inside over : Bool) (more : ℕ) → i < length line → over ≡ blank (getD line i 0) → more ≡ cond (inside || over) 0 1 → count + begins inside (drop i line) ≡ total → count + more + begins (not over) (drop (i + 1) line) ≡ total
@@ -56,11 +44,11 @@ one-more false more e = omega arith
 
 -- a list is its first word and what is left past it
 parts : (list : List ℕ) → front list ++ past list ≡ list
-unfolding front past
+unfolding front pastRun
 parts [] = refl
 parts (byte ∷ rest) = go (blank byte) (parts rest)
   where
-    go : (b : Bool) → front rest ++ past rest ≡ rest → cond b [] (byte ∷ front rest) ++ cond b (byte ∷ rest) (past rest) ≡ byte ∷ rest
+    go : (b : Bool) → front rest ++ past rest ≡ rest → cond b [] (byte ∷ front rest) ++ cond (not b) (past rest) (byte ∷ rest) ≡ byte ∷ rest
     go true e = refl
     go false e = ap (λ (l : List ℕ). byte ∷ l) e
 
@@ -83,9 +71,9 @@ module _ (line : List ℕ) (at from to : ℕ) (h : from ≤ to) (k : to ≤ leng
 -- past the line's end there is none
 module _ (line : List ℕ) (at : ℕ) (h : length line ≤ at) where
   pub none-bytes : take (length line - length line) (drop (length line) line) ≡ front (skip (drop at line))
-  unfolding front skip
+  unfolding front pastRun
   none-bytes = rw (drop-of-length-le line h, drop-length line) (take-nil (length line - length line))
 
   pub none-left : drop (length line) line ≡ past (skip (drop at line))
-  unfolding past skip
+  unfolding pastRun
   none-left = rw (drop-of-length-le line h) (drop-length line)

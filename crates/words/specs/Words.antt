@@ -1,6 +1,6 @@
--- The words of a line (console.md): bytes parted by spaces or tabs. Assumes nothing.
+-- The words of a line (docs/SCRIPT.md): bytes parted by spaces or tabs. Assumes nothing.
 use Prim.Native.Nat.{ℕ, zero, suc, _+_}
-use mathlib.Core.Bool.{Bool, false, not, cond, _||_}
+use mathlib.Core.Bool.{Bool, true, false, not, cond, _||_}
 use mathlib.Core.List.{List, [], _∷_}
 use lib.Dec.{eqb}
 
@@ -8,20 +8,21 @@ use lib.Dec.{eqb}
 abbrev pub blank : ℕ → Bool
 blank byte = eqb byte 32 || eqb byte 9
 
--- what is left past the blanks in front
-unfoldable pub skip : List ℕ → List ℕ
-skip [] = []
-skip (byte ∷ rest) = cond (blank byte) (skip rest) (byte ∷ rest)
+-- what is left past the blanks in front, or past the bytes in front that are none
+unfoldable pub pastRun : Bool → List ℕ → List ℕ
+pastRun blanks [] = []
+pastRun blanks (byte ∷ rest) = cond (cond blanks (blank byte) (not (blank byte))) (pastRun blanks rest) (byte ∷ rest)
 
--- the word in front, none where a blank stands there
+abbrev pub skip : List ℕ → List ℕ
+skip = pastRun true
+
+-- the word in front, none where a blank stands there; and what is left past it
 unfoldable pub front : List ℕ → List ℕ
 front [] = []
 front (byte ∷ rest) = cond (blank byte) [] (byte ∷ front rest)
 
--- what is left past that word
-unfoldable pub past : List ℕ → List ℕ
-past [] = []
-past (byte ∷ rest) = cond (blank byte) (byte ∷ rest) (past rest)
+abbrev pub past : List ℕ → List ℕ
+past = pastRun false
 
 -- word k of a line, from 0; past the last word there is none
 unfoldable pub wordAt : ℕ → List ℕ → List ℕ

@@ -1,8 +1,11 @@
-// The words of a line: bytes parted by spaces or tabs.
+// The words of a line, bytes parted by spaces or tabs, and words as numbers.
+pub mod number;
+pub mod slash;
+
 ghost use mathlib.Core.Path.{_≡_};
 ghost use Prim.Native.Nat.{_≤_, _-_};
 ghost use lib.ListN.{length, take, drop};
-ghost use Rattle.words.specs.Words.{blank, skip, front, past, wordCount};
+ghost use Rattle.words.specs.Words.{blank, pastRun, skip, front, past, wordCount};
 
 // A word's first byte and the place past its last one; both are the line's end where no word is left.
 pub struct Word {
@@ -17,37 +20,20 @@ pub fn is_blank(byte: u8) -> bool
     (byte == b' ') | (byte == b'\t')
 }
 
-// The first place from `at` on that is no blank, or the line's end.
-fn blanks_end(line: &[u8], at: usize) -> usize
+// The first place from `at` on that is no blank, or that is one, or the line's end.
+fn run_end(line: &[u8], at: usize, blanks: bool) -> usize
     requires { ⌜ at ≤ length (now line) ⌝ }
     ensures within { λ r. ⌜ (at ≤ r) × (r ≤ length (now (line .entry))) ⌝ }
-    ensures left { λ r. ⌜ drop r (now (line .entry)) ≡ skip (drop at (now (line .entry))) ⌝ }
-{
-    let mut i = at;
-    while i < line.len() {
-        let more = is_blank(line[i]);
-        if more {
-            i += 1;
-        } else {
-            return i;
-        }
-    }
-    i
-}
-
-// The first place from `at` on that is a blank, or the line's end.
-fn word_end(line: &[u8], at: usize) -> usize
-    requires { ⌜ at ≤ length (now line) ⌝ }
-    ensures within { λ r. ⌜ (at ≤ r) × (r ≤ length (now (line .entry))) ⌝ }
-    ensures left { λ r. ⌜ drop r (now (line .entry)) ≡ past (drop at (now (line .entry))) ⌝ }
+    ensures left { λ r. ⌜ drop r (now (line .entry)) ≡ pastRun blanks (drop at (now (line .entry))) ⌝ }
 {
     let mut i = at;
     while i < line.len() {
         let over = is_blank(line[i]);
-        if over {
-            return i;
-        } else {
+        let more = base::level(blanks, over, !over);
+        if more {
             i += 1;
+        } else {
+            return i;
         }
     }
     i
@@ -61,8 +47,8 @@ pub fn word_after(line: &[u8], at: usize) -> Word
 {
     let end = line.len();
     if at <= end {
-        let from = blanks_end(line, at);
-        let to = word_end(line, from);
+        let from = run_end(line, at, true);
+        let to = run_end(line, from, false);
         return Word { from, to };
     }
     Word { from: end, to: end }

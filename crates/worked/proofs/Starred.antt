@@ -2,9 +2,9 @@
 use mathlib.Core.Path.{refl}
 use Rattle.base.specs.Count
 use Rattle.units.specs.Parameters
-use Rattle.limits.specs.Limits
+use Rattle.screen.specs.Limits
 use Rattle.screen.specs.Totals
-use Rattle.map.specs.Map
+use Rattle.registers.specs.Map
 use Rattle.registers.specs.File
 use Rattle.memory.specs.Memory
 use Rattle.colour.specs.Colour
@@ -12,12 +12,12 @@ use Rattle.cursor.specs.Cursor
 use Rattle.pixel.specs.Dot
 use Rattle.pixel.specs.Sums
 use Rattle.lines.specs.Lines
-use Rattle.counters.specs.Rows
+use Rattle.generator.specs.Rows
 use Rattle.generator.specs.Tick
-use Rattle.access.specs.Access
+use Rattle.machine.specs.Access
 use Rattle.machine.specs.Rules
-use Rattle.worked.specs.Bench.{writes, started, puts, those, ticks, starred, Holds}
+use Rattle.worked.specs.Starred.{started, puts, those, ticks, firstColours, coloured, starred, Holds}
 
 pub starred-rows : Holds starred
-unfolding writes started puts those ticks starred Count.some Count.run Parameters.screenOf Limits.laterLimit Limits.limitOf Totals.totalsOf Map.placeOf File.zeros File.valueIn File.storeIn Memory.bitsAt Memory.pixelShown Colour.maskedColour Cursor.cursorCode Dot.dotAt Sums.summed Lines.period Lines.secondHalf Lines.inLine Lines.visible Lines.opens Lines.closes Lines.nextHalf Lines.nextAt Rows.visibleAt Rows.taken Rows.transferAt Rows.heldAddress Rows.place Rows.asks Rows.leads Rows.requestAt Rows.shows Tick.dotOf Tick.dots Tick.refuses20 Tick.cleared Tick.sumsAfter Tick.seenAfter Tick.stepWith Tick.signalsWith Tick.tickRefusal Tick.tickOf Access.startLimit Access.writeRefusal Rules.stored Rules.written Rules.advanced
+unfolding started puts those ticks firstColours coloured starred Count.count Count.some Count.run Parameters.screenOf Limits.laterLimit Limits.limitOf Totals.totalsOf Map.placeOf File.zeros File.valueIn File.storeIn Memory.bitsAt Memory.pixelShown Colour.maskedColour Cursor.cursorCode Dot.dotAt Sums.summed Lines.period Lines.lineFrom Lines.secondHalf Lines.inLine Lines.visible Lines.visibleBefore Lines.opens Lines.closes Lines.nextHalf Lines.nextAt Rows.visibleAt Rows.topUsed Rows.taken Rows.transferAt Rows.heldAddress Rows.rowDivisor Rows.place Rows.asks Rows.leads Rows.requestAt Rows.shows Tick.dotOf Tick.dots Tick.refuses20 Tick.cleared Tick.sumsAfter Tick.seenAfter Tick.stepWith Tick.signalsWith Tick.tickRefusal Tick.tickOf Access.startLimit Access.writeRefusal Rules.stored Rules.written Rules.advanced
 starred-rows = (refl, (refl, (refl, (refl, (refl, (refl, (refl, (refl, (refl, (refl, (refl, (refl, (refl, (refl, (refl, tt)))))))))))))))

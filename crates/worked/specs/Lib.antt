@@ -1,2 +1,2 @@
 -- The starred rows of document 01.
-pub mod Bench
+pub mod Starred

@@ -1,7 +1,8 @@
 -- `beside::bench` keeps the one condition from the beginning on.
 use mathlib.Core.Path.{sym, subst}
 use native.Mathlib.Omega.{arith}
-use Rattle.machine.proofs.Soundness.{SoundMachine, beginning-sound}
+use Rattle.machine.specs.Conditions.{SoundMachine}
+use Rattle.machine.proofs.Soundness.{beginning-sound}
 use borrow.Author.Needs.{needs}
 use Rattle.beside.proofs.bench.Statement.{statement}
 use Rattle.beside.proofs.bench.Tie as tie

@@ -47,16 +47,16 @@ use denote.Exit.{yes}
 use Rattle.registers.specs.declared.Registers.{Registers}
 use Rattle.registers.proofs.Registers as R
 use Rattle.registers.proofs.Registers.Laws as R′
-use Rattle.counters.specs.declared.Generator.{Generator}
+use Rattle.generator.specs.declared.Generator.{Generator}
 use Rattle.generator.specs.declared.Ticked.{Ticked}
 use Rattle.generator.specs.Tick.{tickOf}
-use Rattle.counters.specs.Sound.{Sound}
-use Rattle.counters.proofs.Generator as G
-use Rattle.counters.proofs.Generator.Laws as G′
+use Rattle.generator.specs.Sound.{Sound}
+use Rattle.generator.proofs.Generator as G
+use Rattle.generator.proofs.Generator.Laws as G′
 use Rattle.generator.proofs.Ticked as T
 use Rattle.generator.proofs.Ticked.Laws as T′
 use Rattle.lent.specs.declared.Answer.{Answer}
-use Rattle.lent.specs.Lent.{answered}
+use Rattle.lent.specs.Lent.{answerOf}
 use Rattle.lent.proofs.Answer as N
 use Rattle.lent.proofs.Answer.Laws as N′
 use Rattle.lent.proofs.advance as advance
@@ -96,7 +96,7 @@ whole-is a g v a-is g-is =
     laws.owes T.the-type T′.the-laws (whole-of a g) (fields .0, (fields .1 .0, (g-is, tt)))
 
 -- the answer and the record that a lent tick leaves are the tick
-whole-tick : (t : Ticked) (a : Answer) (g : Generator) → a ≡ answered t → g ≡ t .next → whole-of a g ≡ t
+whole-tick : (t : Ticked) (a : Answer) (g : Generator) → a ≡ answerOf t → g ≡ t .next → whole-of a g ≡ t
 whole-tick t a g e e′ = λ i. whole-of (e i) (e′ i)
 
 module _ {M : Type 1} (𝓤 : URA M) (H : Heap 𝓤) (A : Atoms 𝓤) (W : Given 𝓤 H A) (b : ℕ) (g : Generator) where
@@ -216,8 +216,8 @@ module _ {M : Type 1} (𝓤 : URA M) (H : Heap 𝓤) (A : Atoms 𝓤) (W : Given
         await ! tt $ pick ! (λ a. split ! $ move ! (1 ∷ []) $
         use1 W
         (some (λ (ws : Generator × (Unit {0} × (Unit {0} × Unit {0}))).
-        ‵ (lasts advance.ended (ν ∷ [], (κ, tt)) (to-args l₄ δ) ws) ⊛ (raw (fact 𝓤 (a ≡ answered due)) ⊛ raw (fact 𝓤 (ws .0 ≡ due .next))))) (id⊢ 𝓤 _) $
-        pick ! (λ ws. split ! $ move ! (1 ∷ []) $ split ! $ heard ! (a ≡ answered due) (λ e. heard ! (ws .0 ≡ due .next) (λ e′. fsplit ! $
+        ‵ (lasts advance.ended (ν ∷ [], (κ, tt)) (to-args l₄ δ) ws) ⊛ (raw (fact 𝓤 (a ≡ answerOf due)) ⊛ raw (fact 𝓤 (ws .0 ≡ due .next))))) (id⊢ 𝓤 _) $
+        pick ! (λ ws. split ! $ move ! (1 ∷ []) $ split ! $ heard ! (a ≡ answerOf due) (λ e. heard ! (ws .0 ≡ due .next) (λ e′. fsplit ! $
         move ! (2 ∷ []) $ split ! $ split ! $ move ! (2 ∷ []) $ peeks ! N.the-row (Is N.the-row) (shows 𝓤 H A N.the-row) a (v ∷ []) (λ a-is. drop ! $
         -- [the loan's token; memory's token; the last value; true; the lender's part; _7; _6; _5; room of _4; _3; _2; _1; _0; true]
         land ! (from ! (stop !)) (init ! 9 refl (laws.lawful N.the-type N′.the-laws 𝓤 H A W .typed a _ a-is .0)) $

@@ -3,7 +3,7 @@ use Prim.Native.Nat.{_≤_, _-_}
 use mathlib.Core.Bool.{Bool, true, false, not}
 use lib.Dec.{eqb}
 use mir.Val.{boolByte}
-use Rattle.counters.specs.Sound.{Sound}
+use Rattle.generator.specs.Sound.{Sound}
 use Rattle.generator.proofs.Kept.{tick-sound}
 use native.Mathlib.Omega.{arith}
 use borrow.Author.Needs.{needs}

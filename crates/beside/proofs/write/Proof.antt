@@ -1,7 +1,8 @@
 -- `beside::write` meets its contract: a write keeps the one condition.
 use mathlib.Core.Path.{sym, subst}
 use Rattle.machine.specs.declared.Written.{Written}
-use Rattle.machine.proofs.Soundness.{SoundMachine, write-sound}
+use Rattle.machine.specs.Conditions.{SoundMachine}
+use Rattle.machine.proofs.Soundness.{write-sound}
 use borrow.Author.Needs.{needs}
 use Rattle.beside.proofs.write.Statement.{statement}
 use Rattle.beside.proofs.write.Tie as tie

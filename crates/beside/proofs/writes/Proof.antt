@@ -1,7 +1,7 @@
 -- `beside::writes` is safe, ends and keeps the one condition, as each write does.
 use Prim.Native.Nat.{_≤_, _-_}
 use lib.ListN.{length}
-use Rattle.counters.specs.Sound.{Sound}
+use Rattle.generator.specs.Sound.{Sound}
 use borrow.Author.Needs.{needs}
 use Rattle.beside.proofs.writes.Statement.{statement}
 use Rattle.beside.proofs.writes.Tie as tie

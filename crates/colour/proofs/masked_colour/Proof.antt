@@ -18,4 +18,4 @@ masked-colour-spec =
     (λ c κs. tt)
     (λ c κs. tt)
     (λ c κs. tt)
-    (λ c. rw (c .colour-of .ensures, c .before .blue-byte2 .ensures, c .before .before .green-byte2 .ensures, c .before .before .before .red-byte2 .ensures, c .before .before .before .before .entry3 .ensures, c .before .before .before .before .before .blue-byte .ensures, c .before .before .before .before .before .before .entry2 .ensures, c .before .before .before .before .before .before .before .green-byte .ensures, c .before .before .before .before .before .before .before .before .entry .ensures, c .before .before .before .before .before .before .before .before .before .red-byte .ensures)))
+    (λ c. rw (c .join .ensures, c .before .blue-byte2 .ensures, c .before .before .green-byte2 .ensures, c .before .before .before .red-byte2 .ensures, c .before .before .before .before .entry3 .ensures, c .before .before .before .before .before .blue-byte .ensures, c .before .before .before .before .before .before .entry2 .ensures, c .before .before .before .before .before .before .before .green-byte .ensures, c .before .before .before .before .before .before .before .before .entry .ensures, c .before .before .before .before .before .before .before .before .before .red-byte .ensures)))

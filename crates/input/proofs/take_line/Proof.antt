@@ -1,5 +1,5 @@
 -- `input::take_line` meets its contract: each turn takes a byte, and what is left comes to the same line.
-use Prim.Native.Nat.{_≤_, _-_}
+use Prim.Native.Nat.{_-_}
 use mathlib.Core.Path.{_≡_, refl}
 use lib.ListN.{length, length-set}
 use Rattle.input.specs.Input.{takenLine, takenRoom}
@@ -10,13 +10,13 @@ use Rattle.input.proofs.take_line.Statement.{statement}
 use Rattle.input.proofs.take_line.Tie as tie
 
 abbrev Inv-loop : tie.InvT-loop
-Inv-loop piece from line₀ held at₀ kept₀ line at kept = ((from ≤ at) × (length line ≡ length line₀)) × Comes piece at line kept (takenLine piece from line₀ held) (takenRoom piece from line₀ held)
+Inv-loop piece from line₀ count at₀ length₀ line at reached = (length line ≡ length line₀) × Comes piece at line reached (takenLine piece from line₀ count) (takenRoom piece from line₀ count)
 
 abbrev μ-loop : tie.MeasureT-loop
-μ-loop piece from line₀ held at₀ kept₀ line at kept = length piece - at
+μ-loop piece from line₀ count at₀ length₀ line at reached = length piece - at
 
 loop-holds : tie.Need-loop-holds Inv-loop μ-loop
-loop-holds c = ((omega arith, refl), comes-all _ _ _ _)
+loop-holds c = (refl, comes-all _ _ _ _)
 
 shared-slice-read-byte : tie.Need-shared-slice-read-byte Inv-loop μ-loop
 shared-slice-read-byte c = search needs
@@ -25,34 +25,34 @@ add-at : tie.Need-add-at Inv-loop μ-loop
 add-at c = omega arith
 
 same-length : tie.Need-same-length Inv-loop μ-loop
-same-length c = c .before .before .before .loop .inv .0 .1
+same-length c = c .before .before .before .loop .inv .0
 
 returns : tie.Need-returns Inv-loop μ-loop
-returns c = let l = c .before .before .before .loop in let e = comes-ended _ (l .at) _ _ _ _ (l .inv .1) (c .before .before .loop-test .taken) (c .if1 .taken) in (omega arith, (l .inv .0 .1, (e .0, e .1)))
+returns c = let l = c .before .before .before .loop in comes-ended _ (l .at) _ _ _ _ (l .inv .1) (c .before .before .loop-test .taken) (c .if1 .taken)
 
 slice-write-line : tie.Need-slice-write-line Inv-loop μ-loop
 slice-write-line c = search needs
 
-add-kept : tie.Need-add-kept Inv-loop μ-loop
-add-kept c = omega arith
+add-length : tie.Need-add-length Inv-loop μ-loop
+add-length c = omega arith
 
 loop-less : tie.Need-loop-less Inv-loop μ-loop
 loop-less c = search needs
 
 loop-again : tie.Need-loop-again Inv-loop μ-loop
-loop-again c = let l = c .before .before .before .before .loop in ((omega arith, simp length-set (l .inv .0 .1)), comes-on _ (l .at) _ (l .kept) _ _ (l .inv .1) (c .before .before .before .loop-test .taken) (c .before .if1 .left) (c .if2 .taken))
+loop-again c = let l = c .before .before .before .before .loop in (simp length-set (l .inv .0), comes-on _ (l .at) _ (l .length) _ _ (l .inv .1) (c .before .before .before .loop-test .taken) (c .before .if1 .left) (c .if2 .taken))
 
 loop-less-2 : tie.Need-loop-less-2 Inv-loop μ-loop
 loop-less-2 c = search needs
 
 loop-again-2 : tie.Need-loop-again-2 Inv-loop μ-loop
-loop-again-2 c = let l = c .before .before .before .before .loop in ((omega arith, l .inv .0 .1), comes-full _ (l .at) _ (l .kept) _ _ (l .inv .1) (c .before .before .before .loop-test .taken) (c .before .if1 .left) (c .if2 .left))
+loop-again-2 c = let l = c .before .before .before .before .loop in (l .inv .0, comes-full _ (l .at) _ (l .length) _ _ (l .inv .1) (c .before .before .before .loop-test .taken) (c .before .if1 .left) (c .if2 .left))
 
 same-length-2 : tie.Need-same-length-2 Inv-loop μ-loop
-same-length-2 c = c .before .loop .inv .0 .1
+same-length-2 c = c .before .loop .inv .0
 
 returns-2 : tie.Need-returns-2 Inv-loop μ-loop
-returns-2 c = let l = c .before .loop in let e = comes-over _ (l .at) _ (l .kept) _ _ (l .inv .1) (omega arith) in (omega arith, (l .inv .0 .1, (e .0, e .1)))
+returns-2 c = let l = c .before .loop in comes-over _ (l .at) _ (l .length) _ _ (l .inv .1) (omega arith)
 
 pub take-line-spec : {M : Type 1} → statement M
 take-line-spec =
@@ -66,7 +66,7 @@ take-line-spec =
     same-length
     returns
     slice-write-line
-    add-kept
+    add-length
     loop-less
     loop-again
     loop-less-2

@@ -45,12 +45,12 @@ use denote.Exit.{yes}
 use Rattle.registers.specs.declared.Registers.{Registers}
 use Rattle.registers.proofs.Registers as R
 use Rattle.registers.proofs.Registers.Laws as R′
-use Rattle.counters.specs.declared.Generator.{Generator}
+use Rattle.generator.specs.declared.Generator.{Generator}
 use Rattle.generator.specs.declared.Ticked.{Ticked}
 use Rattle.generator.specs.Tick.{tickOf}
-use Rattle.counters.specs.Sound.{Sound}
-use Rattle.counters.proofs.Generator as G
-use Rattle.counters.proofs.Generator.Laws as G′
+use Rattle.generator.specs.Sound.{Sound}
+use Rattle.generator.proofs.Generator as G
+use Rattle.generator.proofs.Generator.Laws as G′
 use Rattle.generator.proofs.Ticked as T
 use Rattle.generator.proofs.Ticked.Laws as T′
 use Rattle.generator.proofs.tick as tick
@@ -58,7 +58,7 @@ use Rattle.generator.proofs.tick.Symbol as tick-def
 use Rattle.generator.proofs.tick.Symbol.{name as #tick}
 use Rattle.generator.proofs.tick.Met as tick-thm
 use Rattle.lent.specs.declared.Answer.{Answer}
-use Rattle.lent.specs.Lent.{answered}
+use Rattle.lent.specs.Lent.{answerOf}
 use Rattle.lent.proofs.Answer as N
 use Rattle.lent.proofs.Answer.Laws as N′
 use Rattle.lent.proofs.advance.Key.{name as #advance}
@@ -92,9 +92,9 @@ next-is : (t : Ticked) (v : Val) → Is T.the-row t (v ∷ []) → Is G.the-row 
 next-is t v is = laws.owed T.the-type T′.the-laws t (v ∷ []) is .1 .1 .0
 
 -- what goes out, made of its other two fields
-answered-is : (t : Ticked) (v : Val) → Is T.the-row t (v ∷ []) → Is N.the-row (answered t) (n-val (answered t) ∷ [])
+answered-is : (t : Ticked) (v : Val) → Is T.the-row t (v ∷ []) → Is N.the-row (answerOf t) (n-val (answerOf t) ∷ [])
 answered-is t v is =
-    laws.owes N.the-type N′.the-laws (answered t)
+    laws.owes N.the-type N′.the-laws (answerOf t)
     (laws.owed T.the-type T′.the-laws t (v ∷ []) is .0, (laws.owed T.the-type T′.the-laws t (v ∷ []) is .1 .0, tt))
 
 -- a goal P ∗ (⌜φ⌝ ∗ ⌜ψ⌝), as two clauses make it: both are shown, and P is left
@@ -128,19 +128,19 @@ module _ {M : Type 1} (𝓤 : URA M) (H : Heap 𝓤) (A : Atoms 𝓤) (W : Given
   Post = walkOf 𝓤 H A advance.ended stays (advance.clauses 𝓤 H A at-mem run) .post (((κ, (κ′, tt)), (q, (q′, tt)), tt, args, vals), tt)
 
   -- the exit: the record's observation at the next generator, its borrow and the two tokens are there
-  exits : (t : Ticked) → Says r g (m .now) t → Is N.the-row (answered t) (n-val (answered t) ∷ [])
+  exits : (t : Ticked) → Says r g (m .now) t → Is N.the-row (answerOf t) (n-val (answerOf t) ∷ [])
       → ent 𝓤 (⋆ 𝓤 H A (‵ (fobs γ (G.the-row .coded .code (t .next))) ∷ ‵ (fbor κ (Body (mem G.the-row) b o γ)) ∷ ‵ (flft κ q) ∷ ‵ (flft κ′ q′) ∷ []))
-      (Post (n-val (answered t)))
+      (Post (n-val (answerOf t)))
   exits t e out =
       qed W (‵ (fobs γ (G.the-row .coded .code (t .next))) ∷ ‵ (fbor κ (Body (mem G.the-row) b o γ)) ∷ ‵ (flft κ q) ∷ ‵ (flft κ′ q′) ∷ []) ∵
       suffices ! _
       (ends-at 𝓤 H A advance.ended stays (advance.clauses 𝓤 H A at-mem run) W (((κ, (κ′, tt)), (q, (q′, tt)), tt, args, vals), tt)
-      (n-val (answered t)) (answered t) (t .next, (tt, (tt, tt))) (tt, (tt, (tt, tt)))) $
-      says-both ! (ap answered e) (ap (λ (u : Ticked). u .next) e) $
+      (n-val (answerOf t)) (answerOf t) (t .next, (tt, (tt, tt))) (tt, (tt, (tt, tt)))) $
+      says-both ! (ap answerOf e) (ap (λ (u : Ticked). u .next) e) $
       nothing ! $ move ! (4 ∷ 0 ∷ []) $ join ! $ move ! (3 ∷ 0 ∷ []) $ join ! $ frame ! $
       feqI ! (List Val) (vptr b o ∷ []) (vptr b o ∷ []) refl $ fjoin3 ! $
       nothing ! $ nothing ! $ fjoin ! $ nothing ! $ fjoin ! $ move ! (1 ∷ 0 ∷ []) $ fjoin ! $
-      owned ! N.the-row (Is N.the-row) (laws.makes N.the-type N′.the-plain 𝓤 H A) (answered t) _ out $ move ! (1 ∷ 0 ∷ []) $ done !
+      owned ! N.the-row (Is N.the-row) (laws.makes N.the-type N′.the-plain 𝓤 H A) (answerOf t) _ out $ move ! (1 ∷ 0 ∷ []) $ done !
 
   abbrev to-tick : Tick 𝓤 H A at-mem run .Ghost
   to-tick = (((κ′, tt), (q′, tt), tt, (r, (g, (m, tt))), (r-val r ∷ [], (g-val g ∷ [], (m-val ∷ [], tt)))), tt)
@@ -204,7 +204,7 @@ module _ {M : Type 1} (𝓤 : URA M) (H : Heap 𝓤) (A : Atoms 𝓤) (W : Given
         assigns !
         (agg ! (and-then ! (load ! (from ! (fld ! refl (stop !))) (look-in ! 8 (sub ! 0 refl (whole !))))
         (and-then ! (load ! (from ! (fld ! refl (stop !))) (look-in ! 8 (sub ! 1 refl (whole !)))) (no-more !)))) (from ! (stop !))
-        (init ! 16 refl (laws.lawful N.the-type N′.the-laws 𝓤 H A W .typed (answered t) _ (answered-is t v t-is) .0)) $
+        (init ! 16 refl (laws.lawful N.the-type N′.the-laws 𝓤 H A W .typed (answerOf t) _ (answered-is t v t-is) .0)) $
         owned ! G.the-row (Is G.the-row) (laws.makes G.the-type G′.the-plain 𝓤 H A) (t .next) _ (next-is t v t-is) $
         move ! (1 ∷ 0 ∷ []) $ closes ! tt G.the-row (t .next) (g-val (t .next) ∷ []) b o $
         -- [obs; borrow; g's token; memory's token; true; _5; _4; _3; _2; _1; _0, each with its room; of r; true]

@@ -5,7 +5,7 @@ use mir.Syntax.{w32}
 use mir.Val.{Fits}
 use borrow.Author.Needs.{needs}
 use lib.ListN.{getD}
-use Rattle.lines.proofs.Moments.{Narrow, narrow, moment-by}
+use Rattle.lines.proofs.Moments.{Narrow, narrow, line-from, moment-by}
 use Rattle.lines.proofs.moment_of.Statement.{statement}
 use Rattle.lines.proofs.moment_of.Tie as tie
 
@@ -43,6 +43,7 @@ moment-of-spec =
     let period = low .before .before in
     let screen = period .before .before .before .before .before .before .before .before .before .before in
     moment-by (screen .screen-of .result) (screen .before .args .plain) (screen .before .args .half) (screen .before .args .at)
+    _ (line-from (screen .screen-of .result))
     _ (period .before .choose .ensures)
     _ (period .period-of .ensures)
     _ (low .before .choose2 .ensures)

@@ -13,4 +13,4 @@ value-at-spec =
     (λ c κs. tt)
     (λ c κs. tt)
     (λ c κs. tt)
-    (λ c. rw (c .first .ensures, c .before .value .ensures, c .before .before .is-checksum .ensures, c .before .before .before .checksum-word .ensures, c .before .before .before .before .number-of .ensures)))
+    (λ c. rw (c .first .ensures, c .before .value .ensures, c .before .before .is-checksum .ensures, c .before .before .before .checksum-word .ensures, c .before .before .before .before .number-in-row .ensures)))

@@ -1,7 +1,7 @@
 -- `patient::ear_after` meets its contract. Assumes nothing.
 use native.Mathlib.Omega.{arith}
 use mathlib.Core.Path.{_∙_, ap}
-use Rattle.level.specs.Levels.{levelOf}
+use Rattle.patient.specs.Levels.{levelOf}
 use borrow.Author.Needs.{needs}
 use Rattle.patient.proofs.ear_after.Statement.{statement}
 use Rattle.patient.proofs.ear_after.Tie as tie

@@ -1,17 +1,23 @@
 -- `picture::draw` meets its contract: a refusal changes nothing; else the frame in closed form, which is the ticks' own. Assumes nothing.
 use borrow.Author.Needs.{needs}
-use Rattle.picture.proofs.Closed.{ready-free, fits-free, drawn-whole, refused-whole}
+use Rattle.picture.proofs.Closed.{drawable-free, fits-free, drawn-whole, refused-whole}
 use Rattle.picture.proofs.draw.Statement.{statement}
 use Rattle.picture.proofs.draw.Tie as tie
+
+plan-of-requires : tie.Need-plan-of-requires
+plan-of-requires c κs =
+    let start = c .before .before .before .before in
+    let args = start .args in
+    drawable-free (args .r) (args .memory .now) (args .g) (args .buffer .now) _ (c .before .refusal-of .ensures) (start .pre) (c .if1 .taken)
 
 draw-frame-requires : tie.Need-draw-frame-requires
 draw-frame-requires c κs =
     let go = c .before .before in
     let start = go .before .before .before .before in
     let args = start .args in (
-      ready-free (args .r) (args .memory .now) (args .g) (args .buffer .now) _ (go .before .refusal-of .ensures) (start .pre) (go .if1 .taken),
+      drawable-free (args .r) (args .memory .now) (args .g) (args .buffer .now) _ (go .before .refusal-of .ensures) (start .pre) (go .if1 .taken),
       (
-        c .before .plan-of .ensures,
+        c .before .plan-of .ensures .0,
         fits-free (args .r) (args .memory .now) (args .g) (args .buffer .now) _ (go .before .refusal-of .ensures) (start .pre) (go .if1 .taken),
       ),
     )
@@ -22,7 +28,7 @@ returns c =
     let go = plan .before in
     let start = go .before .before .before .before in
     let drawn = c .before .before .before in
-    drawn-whole (start .args .r) (start .args .memory .now) (start .args .g) (start .args .buffer .now) _ (go .before .refusal-of .ensures) (start .pre) (go .if1 .taken) _ (plan .plan-of .ensures) _ _ _
+    drawn-whole (start .args .r) (start .args .memory .now) (start .args .g) (start .args .buffer .now) _ (go .before .refusal-of .ensures) (start .pre) (go .if1 .taken) _ (plan .plan-of .ensures .0) _ _ _
     (drawn .draw-frame .ensures .0) (drawn .draw-frame .ensures .1) (c .end-of .ensures)
 
 returns-2 : tie.Need-returns-2
@@ -35,9 +41,9 @@ draw-spec =
     tie.close
     (tie.spec
     (λ c κs. search needs)
-    (λ c κs. tt)
+    plan-of-requires
     draw-frame-requires
-    (λ c κs. tt)
+    (λ c κs. c .before .before .before .before .plan-of .ensures .1)
     (λ c. search needs)
     returns
     returns-2)

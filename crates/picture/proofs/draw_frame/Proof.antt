@@ -1,7 +1,8 @@
 -- `picture::draw_frame` meets its contract: black bytes and no sums, or the segments through the masked palette. Assumes nothing.
 use mathlib.Core.Path.{sym, _∙_}
 use borrow.Author.Needs.{needs}
-use Rattle.picture.proofs.Closed.{frame-black, frame-lit}
+use Rattle.picture.proofs.Closed.{frame-black, frame-lit, size-link}
+use Rattle.picture.proofs.plan.Sizes.{sized}
 use Rattle.picture.proofs.draw_frame.Statement.{statement}
 use Rattle.picture.proofs.draw_frame.Tie as tie
 
@@ -18,8 +19,13 @@ returns-2 c =
     let table = c .before .before .before .before .before .before .before in
     let lit = table .before .before in
     let start = lit .before .before .before .before .before .before .before in
-    frame-lit (start .args .r) (start .args .memory .now) (sym (lit .before .is-forced-blank .ensures) ∙ lit .if1 .left) (start .pre .0)
+    frame-lit (start .args .r) (start .args .memory .now) (sym (lit .before .is-forced-blank .ensures) ∙ lit .if1 .left)
     _ (start .pre .1 .0) _ (table .masked-palette .ensures) (start .pre .1 .1) (c .before .before .draw-rows .ensures)
+
+draw-rows-requires : tie.Need-draw-rows-requires
+draw-rows-requires c κs =
+    let start = c .before .before .before .before .before .before .before .before .before .before .before .before .before in
+    (rw (start .pre .1 .0) (sized _ (start .pre .0)), start .pre .1 .1 ∙ sym (size-link (start .args .r) (start .args .memory .now) _ (start .pre .1 .0)))
 
 pub draw-frame-spec : {M : Type 1} → statement M
 draw-frame-spec =
@@ -31,6 +37,6 @@ draw-frame-spec =
     (λ c. search needs)
     returns
     (λ c κs. tt)
-    (λ c κs. tt)
+    draw-rows-requires
     (λ c. search needs)
     returns-2)

@@ -4,9 +4,8 @@ use mathlib.Core.Path.{_≡_, sym, _∙_}
 use native.Mathlib.Omega.{arith}
 use lib.Dec.{eqb}
 use Rattle.picture.specs.Picture.{refuses22}
-use Rattle.plan.specs.Plan.{Sized}
-use Rattle.plan.proofs.Segments.{visible-most}
-use Rattle.picture.proofs.Closed.{plan-sized, refusal-22, refusal-later}
+use Rattle.picture.proofs.plan.Segments.{visible-most}
+use Rattle.picture.proofs.Closed.{drawable, refusal-22, refusal-later}
 use Rattle.picture.proofs.refusal_of.Statement.{statement}
 use Rattle.picture.proofs.refusal_of.Tie as tie
 
@@ -16,11 +15,6 @@ early c = rw (c .is-running .ensures)
 
 begins : (c : tie.Else1) → let a = c .before .before .before .before .before .args in refuses22 (a .r) (a .g) ≡ false
 begins c = sym (early (c .before .before .before)) ∙ c .if1 .left
-
-plan : (c : tie.After-plan-of) → Sized (c .plan-of .result)
-plan c =
-    let start = c .before .before .before .before .before .before in
-    plan-sized (start .args .r) (start .args .g) (start .pre) (begins (c .before)) _ (c .plan-of .ensures)
 
 returns : tie.Need-returns
 returns c =
@@ -33,7 +27,7 @@ returns-2 c =
     let p = c .before .before .before .before in
     let on = p .before .before .before .before in
     let start = on .before .before in
-    refusal-later (start .args .r) (start .args .memory .now) (start .args .g) (start .args .size) (start .pre) _ (early on) (p .before .if1 .left) _ (p .plan-of .ensures)
+    refusal-later (start .args .r) (start .args .memory .now) (start .args .g) (start .args .size) (start .pre) _ (early on) (p .before .if1 .left) _ (p .plan-of .ensures .0)
     _ (c .before .before .refuses-20 .ensures) _ _ (c .before .first .ensures) (c .first2 .ensures)
 
 pub refusal-of-spec : {M : Type 1} → statement M
@@ -42,9 +36,9 @@ refusal-of-spec =
     (tie.spec
     (λ c κs. tt)
     returns
-    (λ c κs. tt)
-    (λ c. omega (arith, visible-most _ (plan (c .before))))
-    (λ c κs. tt)
+    (λ c κs. let start = c .before .before .before .before .before in drawable (start .args .r) (start .args .g) (start .pre) (begins c))
+    (λ c. omega (arith, visible-most _ (c .before .plan-of .ensures .1)))
+    (λ c κs. c .before .plan-of .ensures .1)
     (λ c κs. tt)
     (λ c κs. tt)
     returns-2)

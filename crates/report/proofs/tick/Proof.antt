@@ -1,5 +1,6 @@
 -- `report::tick` meets its contract.
-use Rattle.report.proofs.Cases.{step-line, step-wave, step-none, none-put}
+use Rattle.room.proofs.Laying.{none-put}
+use Rattle.report.proofs.Cases.{step-line, step-wave, step-none}
 use Rattle.report.specs.Pages.{counted}
 use mathlib.Core.Path.{ap, _∙_}
 use borrow.Author.Needs.{needs}

@@ -1,6 +1,7 @@
 -- `report::verdict` meets its contract.
 use Rattle.room.proofs.Laying.{put-one}
-use Rattle.report.proofs.Cases.{verdict-refused, verdict-good, verdict-none, none-put}
+use Rattle.room.proofs.Laying.{none-put}
+use Rattle.report.proofs.Cases.{verdict-refused, verdict-good, verdict-none}
 use Rattle.report.specs.Pages.{turned}
 use mathlib.Core.Path.{ap, _∙_}
 use borrow.Author.Needs.{needs}

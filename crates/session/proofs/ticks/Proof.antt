@@ -1,11 +1,11 @@
 -- `session::ticks` meets its contract: each tick is one more of the run, and keeps the one condition.
 use Prim.Native.Nat.{_≤_, _-_}
 use mathlib.Core.Path.{_≡_, refl, ap, _∙_}
-use Rattle.counters.specs.Sound.{Sound}
-use Rattle.acts.specs.Machines.{ranOf}
-use Rattle.acts.specs.declared.Ran.{Ran}
-use Rattle.acts.proofs.Running.{ran-first, ran-next, ran-refused}
-use Rattle.deeds.proofs.Laws.{run-done}
+use Rattle.generator.specs.Sound.{Sound}
+use Rattle.calls.specs.Calls.{ranOf}
+use Rattle.calls.specs.declared.Ran.{Ran}
+use Rattle.calls.proofs.Running.{ran-first, ran-next, ran-refused}
+use Rattle.changes.proofs.Laws.{run-done}
 use native.Mathlib.Omega.{arith}
 use borrow.Author.Needs.{needs}
 use Rattle.session.proofs.ticks.Statement.{statement}
@@ -23,8 +23,8 @@ loop-holds c = ((omega arith, ran-first _ _), c .before .before .before .before 
 tick-requires : tie.Need-tick-requires Inv-loop μ-loop
 tick-requires c κs = c .before .loop .inv .1
 
-told-requires : tie.Need-told-requires Inv-loop μ-loop
-told-requires c κs = tt
+show-tick-requires : tie.Need-show-tick-requires Inv-loop μ-loop
+show-tick-requires c κs = tt
 
 returns : tie.Need-returns Inv-loop μ-loop
 returns c = let l = c .before .before .before .before .before .before .before .loop in let t = c .before .before .before .before .before .tick in (run-done _ _ _ _ refl _ _ (ran-refused _ _ _ _ _ (l .inv .0 .1) (t .ensures .0) (c .if1 .taken) _ (c .before .before .before .before .before .before .loop-test .taken)), t .ensures .1)
@@ -49,7 +49,7 @@ ticks-spec =
     μ-loop
     loop-holds
     tick-requires
-    told-requires
+    show-tick-requires
     returns
     add-ticks
     loop-less

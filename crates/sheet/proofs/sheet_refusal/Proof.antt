@@ -6,7 +6,7 @@ use mathlib.Core.Bool.{cond}
 use native.Mathlib.Omega.{arith}
 use lib.Dec.{eqb}
 use lib.ListN.{drop}
-use Rattle.tags.specs.Encoding.{tags}
+use Rattle.sheet.specs.Encoding.{tags}
 use Rattle.sheet.specs.Reader.{refusalFrom}
 use Rattle.sheet.proofs.Cases.{judged, judged-all}
 use Rattle.sheet.proofs.sheet_refusal.Statement.{statement}

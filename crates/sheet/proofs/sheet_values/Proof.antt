@@ -5,7 +5,7 @@ use mathlib.Core.Path.{_≡_, refl}
 use native.Mathlib.Omega.{arith}
 use lib.ListN.{drop}
 use lib.Seq.{sets}
-use Rattle.tags.specs.Encoding.{tags}
+use Rattle.sheet.specs.Encoding.{tags}
 use Rattle.sheet.specs.Reader.{pair, valuesFrom}
 use Rattle.sheet.proofs.Cases.{valued}
 use Rattle.sheet.proofs.sheet_values.Statement.{statement}

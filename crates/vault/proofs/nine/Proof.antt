@@ -19,4 +19,4 @@ nine-spec =
     (λ c κs. tt)
     (λ c κs. tt)
     (λ c κs. tt)
-    (λ c. rw (c .blue3 .ensures, c .before .green3 .ensures, c .before .before .red3 .ensures, c .before .before .before .blue2 .ensures, c .before .before .before .before .green2 .ensures, c .before .before .before .before .before .red2 .ensures, c .before .before .before .before .before .before .blue .ensures, c .before .before .before .before .before .before .before .green .ensures, c .before .before .before .before .before .before .before .before .red .ensures)))
+    (λ c. rw (c .blue-byte3 .ensures, c .before .green-byte3 .ensures, c .before .before .red-byte3 .ensures, c .before .before .before .blue-byte2 .ensures, c .before .before .before .before .green-byte2 .ensures, c .before .before .before .before .before .red-byte2 .ensures, c .before .before .before .before .before .before .blue-byte .ensures, c .before .before .before .before .before .before .before .green-byte .ensures, c .before .before .before .before .before .before .before .before .red-byte .ensures)))

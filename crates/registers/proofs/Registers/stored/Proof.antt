@@ -1,6 +1,6 @@
 -- `registers::Registers::stored` meets its contract, place by place. Assumes nothing.
 use mathlib.Core.Path.{_≡_, sym, ap, _∙_}
-use Rattle.map.specs.declared.Place.{Place}
+use Rattle.registers.specs.declared.map.Place.{Place}
 use Rattle.registers.specs.File.{storeIn}
 use Rattle.registers.proofs.Registers.stored.Statement.{statement}
 use Rattle.registers.proofs.Registers.stored.Tie as tie

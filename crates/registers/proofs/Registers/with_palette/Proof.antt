@@ -2,7 +2,7 @@
 use native.Mathlib.Omega.{arith}
 use mathlib.Core.Path.{refl}
 use borrow.Author.Needs.{needs}
-use Rattle.map.specs.declared.Place.the-variants.{Palette}
+use Rattle.registers.specs.declared.map.Place.the-variants.{Palette}
 use Rattle.registers.specs.File.{storeIn}
 use Rattle.registers.proofs.Cases.{stored-past}
 use Rattle.registers.proofs.Registers.with_palette.Statement.{statement}

@@ -2,7 +2,7 @@
 use native.Mathlib.Omega.{arith}
 use mathlib.Core.Path.{refl}
 use borrow.Author.Needs.{needs}
-use Rattle.map.specs.declared.Place.the-variants.{Screen}
+use Rattle.registers.specs.declared.map.Place.the-variants.{Parameter}
 use Rattle.registers.specs.File.{storeIn}
 use Rattle.registers.proofs.Cases.{stored-past}
 use Rattle.registers.proofs.Registers.with_parameter.Statement.{statement}
@@ -16,4 +16,4 @@ with-parameter-spec =
     (λ c. omega arith)
     (λ c. search needs)
     (λ c. refl)
-    (λ c. stored-past _ (Screen _) _ (search needs) (c .if1 .left)))
+    (λ c. stored-past _ (Parameter _) _ (search needs) (c .if1 .left)))

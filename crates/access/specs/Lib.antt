@@ -1,2 +1,0 @@
--- The rules of register writes, and the checksum words.
-pub mod Access

@@ -1,2 +1,0 @@
--- The wires of 24 bits in a waveform.
-pub mod Buses

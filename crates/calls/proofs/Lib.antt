@@ -1,0 +1,2 @@
+-- Laws of many ticks.
+pub mod Running

@@ -1,0 +1,3 @@
+-- Many ticks of a machine, its picture's size, and its nine checksum bytes.
+pub mod Calls
+pub mod Nine

@@ -1,2 +1,0 @@
--- The rule of the checksum words.
-pub mod Words

@@ -1,2 +1,0 @@
--- Commands of the bench script.
-pub mod Commands

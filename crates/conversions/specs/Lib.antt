@@ -1,2 +1,0 @@
--- The conversions between the three units.
-pub mod Units

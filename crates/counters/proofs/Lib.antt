@@ -1,2 +1,0 @@
--- Laws of the generator record.
-pub mod Shown

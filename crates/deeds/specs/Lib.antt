@@ -1,2 +1,0 @@
--- What good commands do.
-pub mod Deeds

@@ -1,0 +1,162 @@
+-- DEMAND 3 holds of every machine that the calls give from the beginning. Assumes nothing.
+use Prim.Native.Nat.{ℕ, zero, suc, _*_, _≤_}
+use mathlib.Core.Bool.{Bool, false, not, cond}
+use mathlib.Core.List.{List, [], _∷_, _++_}
+use mathlib.Core.Path.{_≡_, refl, sym, ap, _∙_}
+use native.Mathlib.Omega.{arith}
+use borrow.Author.Tests.{eq-eqb}
+use lib.ListN.{length}
+use Rattle.base.specs.Count.{count}
+use Rattle.base.proofs.Some.{some-none}
+use Rattle.screen.specs.Totals.{frameTicks, framePixels}
+use Rattle.signals.specs.declared.Signals.{Signals}
+use Rattle.registers.specs.declared.Registers.{Registers}
+use Rattle.generator.specs.Rows.{screen}
+use Rattle.generator.specs.Tick.{tickOf, after}
+use Rattle.generator.specs.declared.Generator.{Generator}
+use Rattle.machine.specs.Rules.{beginning, answered, advanced}
+use Rattle.machine.specs.Conditions.{SoundMachine}
+use Rattle.machine.specs.declared.Machine.{Machine}
+use Rattle.machine.proofs.Soundness.{beginning-sound, advance-sound, calls-sound}
+use Rattle.frame.specs.Frame.{drawn, refusedWithin, frameEnd}
+use Rattle.frame.specs.Demand.{isShown, isTransfer, addressesAnswered, Ready, Demand3 as FrameDemand}
+use Rattle.frame.proofs.Demand.{demand-3, shown-visible}
+use Rattle.picture.specs.Picture.{pictureRefusal, drawnOf, bufferOf}
+use Rattle.picture.specs.Span.{bytesOf}
+use Rattle.picture.specs.Machines.{ticked, pictured}
+use Rattle.picture.proofs.Machines.{ticked-generator, pictured-ticks, picture-sound}
+use Rattle.demands.specs.Asked.{Asked, of, lent, picture, afterAsked, afterEvery}
+use Rattle.demands.specs.Demand3.{answer, shows, transfers, addresses, colours, Begins, Demand3}
+
+-- every call keeps the one condition, and so does any list of them
+asked-sound : (m : Machine) (call : Asked) → SoundMachine m → SoundMachine (afterAsked m call)
+unfolding advanced
+asked-sound m (of call) z = calls-sound m (call ∷ []) z
+asked-sound m (lent memory) z = advance-sound m memory z
+asked-sound m (picture memory buffer) z = picture-sound m memory (length buffer) z
+
+every-sound : (m : Machine) (calls : List Asked) → SoundMachine m → SoundMachine (afterEvery m calls)
+every-sound m [] z = z
+every-sound m (call ∷ rest) z = every-sound (afterAsked m call) rest (asked-sound m call z)
+
+reached-sound : (calls : List Asked) (m : Machine) → m ≡ afterEvery beginning calls → SoundMachine m
+reached-sound calls m e = rw e (every-sound beginning calls beginning-sound)
+
+count-same : (p q : ℕ → Bool) (n : ℕ) → ((k : ℕ) → p k ≡ q k) → count p n ≡ count q n
+unfolding count
+count-same p q zero h = refl
+count-same p q (suc n) h = rw (h n, count-same p q n h)
+
+-- what a machine answers tick by tick is what its generator's ticks answer
+module _ (m : Machine) (memory : List ℕ) where
+  abbrev r : Registers
+  r = m .regs
+
+  abbrev g : Generator
+  g = m .generator
+
+  refusal-is : (k : ℕ) → answer m memory k .refusal ≡ tickOf r memory (after r memory g k) .refusal
+  unfolding advanced
+  refusal-is k = rw (ticked-generator m memory k)
+
+  signals-is : (k : ℕ) → answer m memory k .signals ≡ tickOf r memory (after r memory g k) .signals
+  unfolding advanced
+  signals-is k = rw (ticked-generator m memory k)
+
+  generator-is : (k : ℕ) → ticked m memory k .generator ≡ after r memory g k
+  generator-is k = ap (λ (x : Machine). x .generator) (ticked-generator m memory k)
+
+  shows-is : (k : ℕ) → shows m memory k ≡ isShown r memory g k
+  shows-is k = ap (λ (s : Signals). not (s .blank)) (signals-is k)
+
+  transfers-is : (k : ℕ) → transfers m memory k ≡ isTransfer r memory g k
+  transfers-is k = ap (λ (s : Signals). s .transfer) (signals-is k)
+
+  addresses-is : (n : ℕ) → addresses m memory n ≡ addressesAnswered r memory g n
+  unfolding addresses addressesAnswered
+  addresses-is zero = refl
+  addresses-is (suc n) = ap (λ (s : Signals). with s (addresses m memory n)) (signals-is n) ∙ ap (with (tickOf r memory (after r memory g n) .signals)) (addresses-is n)
+    where
+      with : Signals → List ℕ → List ℕ
+      with s l = cond (s .transfer) (l ++ (s .address ∷ [])) l
+
+-- the frame that begins with a machine
+module _ (m : Machine) (memory : List ℕ) (z : SoundMachine m) (b : Begins m memory) where
+  abbrev F : ℕ
+  F = frameTicks (screen (m .regs))
+
+  ready : Ready (m .regs) memory (m .generator)
+  ready =
+      record {
+        sound = z;
+        runs = b .running-now;
+        start = b .at-start;
+        transfers = b .transferring-now;
+        unblanked = b .unblanked;
+        room = b .room;
+        unrolled = b .unrolled;
+      }
+
+  abbrev d : FrameDemand (m .regs) memory (m .generator)
+  d = demand-3 (m .regs) memory (m .generator) ready
+
+  -- the colours of what is not blank are those of the visible ticks
+  colours-is : (n : ℕ) → n ≤ F → colours m memory n ≡ drawn (m .regs) memory (m .generator) n
+  unfolding colours drawn
+  colours-is zero l = refl
+  colours-is (suc n) l = rw (shows-is m memory n, shown-visible (m .regs) memory (m .generator) ready n (omega arith), signals-is m memory n, colours-is n (omega arith))
+
+  unrefused-frame : refusedWithin (m .regs) memory (m .generator) F ≡ false
+  unfolding refusedWithin
+  unrefused-frame = some-none _ F (λ k l. rw (d .unrefused k l))
+
+  module _ (buffer : List ℕ) (size : length buffer ≡ 3 * framePixels (screen (m .regs))) where
+    free : pictureRefusal (m .regs) memory (m .generator) (length buffer) ≡ 0
+    unfolding pictureRefusal
+    free = simp (b .running-now, b .at-start .half, b .at-start .at, eq-eqb (length buffer) (3 * framePixels (screen (m .regs))) size, unrefused-frame)
+
+    picture-free : pictured m memory (length buffer) .refusal ≡ 0
+    unfolding pictured drawnOf
+    picture-free = free
+
+    picture-bytes : bufferOf (m .regs) memory (m .generator) buffer ≡ bytesOf (colours m memory F)
+    unfolding bufferOf
+    picture-bytes = simp (eq-eqb (pictureRefusal (m .regs) memory (m .generator) (length buffer)) 0 free) (ap bytesOf (sym (colours-is F (omega arith))))
+
+    picture-machine : pictured m memory (length buffer) .machine ≡ ticked m memory F
+    picture-machine = pictured-ticks m memory (length buffer) picture-free
+
+  frame-end : ticked m memory F ≡ record { regs = m .regs; generator = frameEnd (m .regs) memory }
+  frame-end = ticked-generator m memory F ∙ ap (λ (x : Generator). record { regs = m .regs; generator = x }) (d .end)
+
+-- another machine with the same registers ends its frame so too
+same-end : (m n : Machine) (memory : List ℕ) → SoundMachine m → SoundMachine n → Begins m memory → Begins n memory → n .regs ≡ m .regs →
+    ticked n memory (frameTicks (screen (m .regs))) ≡ ticked m memory (frameTicks (screen (m .regs)))
+same-end m n memory z y b c e =
+    ap (ticked n memory) (sym (ap (λ (r : Registers). frameTicks (screen r)) e))
+    ∙ frame-end n memory y c
+    ∙ ap (λ (r : Registers). record { regs = r; generator = frameEnd r memory }) e
+    ∙ sym (frame-end m memory z b)
+
+-- DEMAND 3
+pub demand-3-reached : (calls : List Asked) (m : Machine) → m ≡ afterEvery beginning calls → (memory : List ℕ) → Begins m memory → Demand3 m memory
+demand-3-reached calls m reached memory b =
+    let z = reached-sound calls m reached in
+    let r = m .regs in
+    let g = m .generator in
+    let d = demand-3 r memory g (ready m memory z b) in
+    record {
+      unrefused = λ k l. refusal-is m memory k ∙ d .unrefused k l;
+      some = d .some;
+      returns = rw (generator-is m memory (frameTicks (screen r))) (d .returns);
+      not-before = λ k p l at. d .not-before k p l (rw (generator-is m memory k) at at);
+      visible = count-same _ _ (frameTicks (screen r)) (shows-is m memory) ∙ d .visible;
+      transferred = count-same _ _ (frameTicks (screen r)) (transfers-is m memory) ∙ d .transfers;
+      addressed = addresses-is m memory (frameTicks (screen r)) ∙ d .addresses;
+      placed = d .places;
+      pictured-now = picture-free m memory z b;
+      pictured-bytes = picture-bytes m memory z b;
+      pictured-machine = picture-machine m memory z b;
+      pictured-reads = λ buffer size address. ap (λ (x : Machine). answered x address) (picture-machine m memory z b buffer size);
+      same-end = λ others n met same c. same-end m n memory z (reached-sound others n met) b c same;
+    }

@@ -1,2 +1,0 @@
--- The rules of an ear.
-pub mod Ear

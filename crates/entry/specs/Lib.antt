@@ -1,2 +1,0 @@
--- The rule of a pixel's palette entry.
-pub mod Entry

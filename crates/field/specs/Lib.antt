@@ -1,2 +1,0 @@
--- The rule of one field by its tag.
-pub mod Field

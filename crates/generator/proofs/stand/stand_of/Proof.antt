@@ -1,0 +1,67 @@
+-- `generator::stand::stand_of` meets its contract: each part by its own call, joined by one law.
+use native.Mathlib.Omega.{arith}
+use Rattle.generator.specs.Sound.{InFrame}
+use Rattle.generator.proofs.Rows.{row-divisor-positive}
+use Rattle.generator.proofs.stand.Stands.{runs-in-frame, stands-at}
+use Rattle.generator.proofs.Rows.{row-some, row-most}
+use Rattle.generator.proofs.stand.stand_of.Statement.{statement}
+use Rattle.generator.proofs.stand.stand_of.Tie as tie
+
+abbrev start : tie.After-struct-known → tie.Start
+start c = c .before .before .before
+
+inside : (c : tie.After-struct-known) → InFrame (start c .args .r .control) (c .before .screen-of .result) (start c .args .g .half .0) (start c .args .g .at .0)
+inside c = runs-in-frame (start c .args .r) (start c .args .g) (start c .pre) _ (c .before .screen-of .ensures)
+
+abbrev known : tie.After-is-transferring → tie.After-struct-known
+known o = o .before .before .before .before .before .before .before .before .before .before .before
+
+pub stand-of-spec : {M : Type 1} → statement M
+stand-of-spec =
+    tie.close
+    (tie.spec
+    (λ c κs. tt)
+    (λ c. omega (arith, row-most _ (inside c .bounded)))
+    (λ c κs. tt)
+    (λ c. omega arith)
+    (λ c. omega arith)
+    (λ c κs. tt)
+    (λ c. omega (arith, row-some _ (inside (c .before .before) .bounded)))
+    (λ c κs. tt)
+    (λ c κs. tt)
+    (λ c κs. tt)
+    (λ c κs. tt)
+    (λ c κs. tt)
+    (λ c κs. tt)
+    (λ c κs.
+    let k = c .before .before .before .before .before .before .before .before .before in (
+      omega (arith, row-divisor-positive (start k .args .r), c .row-divisor .ensures),
+      row-some _ (inside k .bounded),
+      row-most _ (inside k .bounded),
+    ))
+    (λ c κs. tt)
+    (λ c. omega (arith, row-some _ (inside (known c) .bounded)))
+    (λ c κs. tt)
+    (λ c κs. inside (known (c .before)))
+    (λ c.
+    let a = c .before .before in
+    let o = a .before in
+    let p = o .before in
+    let held = p .before .before .before in
+    let q = held .before .before .before in
+    let m = q .before .before in
+    let k = m .before .before in
+    stands-at (start k .args .r) (start k .args .g) (k .before .screen-of .result) (k .before .screen-of .ensures) _ _ _ _ _ _ _ _ _ _ _ _
+    (m .before .is-plain .ensures)
+    (m .moment-of .ensures)
+    (q .address-increment .ensures)
+    (held .before .before .top-used .ensures)
+    (held .before .first .ensures)
+    (held .held-of .ensures)
+    (p .before .before .is-forced-blank .ensures)
+    (p .before .row-divisor .ensures)
+    (p .place-of .ensures .0)
+    (o .is-transferring .ensures)
+    (a .is-asking .ensures)
+    (c .before .is-request .ensures)
+    (p .place-of .ensures .1)))

@@ -1,2 +1,0 @@
--- Numbers in hexadecimal digits.
-pub mod Hex

@@ -1,2 +1,0 @@
--- The memory lent, after a command.
-pub mod Keep

@@ -1,2 +1,0 @@
--- The rules of a level in words.
-pub mod Levels

@@ -1,2 +1,0 @@
--- The one-bit wires in a waveform.
-pub mod Levels

@@ -1,7 +1,0 @@
--- `limits::refuses_11` meets its contract.
-use mathlib.Core.Path.{refl}
-use Rattle.limits.proofs.refuses_11.Statement.{statement}
-use Rattle.limits.proofs.refuses_11.Tie as tie
-
-pub refuses-11-spec : {M : Type 1} → statement M
-refuses-11-spec = tie.close (tie.spec (λ c. refl))

@@ -1,8 +1,0 @@
--- `limits::refuses_17` meets its contract.
-use mathlib.Core.Path.{refl}
-use native.Mathlib.Omega.{arith}
-use Rattle.limits.proofs.refuses_17.Statement.{statement}
-use Rattle.limits.proofs.refuses_17.Tie as tie
-
-pub refuses-17-spec : {M : Type 1} → statement M
-refuses-17-spec = tie.close (tie.spec (λ c. omega arith) (λ c. refl))

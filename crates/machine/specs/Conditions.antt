@@ -1,0 +1,20 @@
+-- The one condition of a machine (01, "What nobody may get past"), and when a control word may start it (01, "Starting a screen").
+-- Assumes nothing.
+use Prim.Native.Nat.{ℕ, _≤_}
+use mathlib.Core.Bool.{false}
+use mathlib.Core.Path.{_≡_}
+use Rattle.control.specs.Control.{outside}
+use Rattle.screen.specs.Limits.{limitOf}
+use Rattle.generator.specs.Rows.{screen}
+use Rattle.generator.specs.Sound.{Sound}
+use Rattle.machine.specs.declared.Machine.{Machine}
+
+-- its registers and its generator keep the one condition
+abbrev pub SoundMachine : Machine → Type 0
+SoundMachine m = Sound (m .regs) (m .generator)
+
+-- a control word of 24 bits in the build, under which the registers keep every limit
+pub record Startable (m : Machine) (value : ℕ) : Type 0 where
+  pub narrow : value ≤ 0xFFFFFF
+  pub in-build : outside value ≡ false
+  pub limits : limitOf value (screen (m .regs)) ≡ 0

@@ -1,2 +1,0 @@
--- The register map: what stands at each word address, and the rules of each place.
-pub mod Map

@@ -1,2 +1,0 @@
--- Names of the bench script's commands.
-pub mod Names

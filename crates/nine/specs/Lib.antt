@@ -1,2 +1,0 @@
--- The nine checksum bytes.
-pub mod Nine

@@ -1,2 +1,0 @@
--- Numbers of the bench script's commands.
-pub mod Arguments

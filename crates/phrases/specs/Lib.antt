@@ -1,2 +1,0 @@
--- The phrases that lines are made of.
-pub mod Phrases

@@ -1,2 +1,0 @@
--- The definitions of the code that draws a frame.
-pub mod Plan

@@ -1,2 +1,0 @@
--- The rules of points.
-pub mod Points

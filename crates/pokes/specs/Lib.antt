@@ -1,2 +1,0 @@
--- The rules of the script's pokes.
-pub mod Pokes

@@ -1,2 +1,0 @@
--- The head of a PPM.
-pub mod Head

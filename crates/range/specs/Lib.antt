@@ -1,2 +1,0 @@
--- The range of a screen's parameters: refusal 10.
-pub mod Range

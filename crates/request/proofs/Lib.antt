@@ -1,2 +1,0 @@
--- What fits 64 bits.
-mod Bounds

@@ -1,2 +1,0 @@
--- Laws of rows.
-mod Cases

@@ -1,2 +1,0 @@
--- Rows of bytes and of numbers.
-pub mod Rows

@@ -1,0 +1,3 @@
+-- The lines of the script that draws a chart.
+pub mod Pokes
+pub mod Settings

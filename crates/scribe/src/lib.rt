@@ -1,0 +1,3 @@
+// The lines of the script that draws a chart, put into a lent room.
+pub mod pokes;
+pub mod settings;

@@ -1,2 +1,0 @@
--- Laws of the script's register writes.
-mod Cases

@@ -1,2 +1,0 @@
--- The rules of the script's register writes.
-pub mod Settings

@@ -1,2 +1,0 @@
--- The `/` of a `compare`.
-pub mod Slash

@@ -1,2 +1,0 @@
--- Where a tick stands.
-pub mod Stand

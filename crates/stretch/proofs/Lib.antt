@@ -1,3 +1,0 @@
--- Laws of stretches: for callers, and of the proofs here.
-pub mod Clips
-pub mod Fits

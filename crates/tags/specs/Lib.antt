@@ -1,2 +1,0 @@
--- The bytes of a sheet: its tags and its fields.
-pub mod Encoding

@@ -1,2 +1,0 @@
--- The rules of a patient's thresholds.
-pub mod Thresholds

@@ -1,2 +1,0 @@
--- The text of a waveform.
-pub mod Waveform

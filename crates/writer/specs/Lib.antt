@@ -1,2 +1,0 @@
--- The rules of writing a sheet.
-pub mod Writer
