@@ -4,11 +4,16 @@
 # (an octave is 64 pixels from 125 Hz at column 112, 10 dB are 32 pixels from -10 dB at line 36).
 set -eu
 here=$(cd "$(dirname "$0")" && pwd -P)
+chart=$("$here/../run" --command chart)
+bench=$("$here/../run" --command bench)
 answers=$(mktemp)
 trap 'rm -f "$answers"' EXIT
+trap 'exit 1' HUP INT TERM
+chart() { eval "$chart"; }
+bench() { eval "$bench"; }
 # wrong SHEET MESSAGE: the sheet gets that message on standard error and nothing on standard output.
 wrong() {
-    printf "$1" | "$here/../run" chart 2>&1 >"$answers" | grep -qxF "$2" || { echo "no '$2'"; exit 1; }
+    printf "$1" | chart 2>&1 >"$answers" | grep -qxF "$2" || { echo "no '$2'"; exit 1; }
     [ ! -s "$answers" ] || { echo "a script after '$2'"; exit 1; }
 }
 wrong '1100 0 0\n' 'line 1: unknown frequency'
@@ -23,7 +28,7 @@ wrong "$(printf '%1001s' 250) 0 0\n" 'line 1: line too long'
 wrong "$(printf '125 0 0\n%1200s' 250) 0 0\n" 'line 2: line too long'
 echo "ten wrong sheets: each named, and no script"
 for patient in "$here"/*.txt; do
-    "$here/../run" chart <"$patient" | "$here/../run" bench >"$answers"
+    chart <"$patient" | bench >"$answers"
     awk -v name="$(basename "$patient" .txt)" '
     function octaves(hz) { return hz == 750 ? 2.5 : hz == 1500 ? 3.5 : hz == 3000 ? 4.5 : hz == 6000 ? 5.5 : log(hz / 125) / log(2) }
     function wrong(what) { print name ": " what; bad = 1; exit 1 }

@@ -3,12 +3,15 @@
 # The kit compiles for x86-64. On another processor the module that the kit hands its own clang is kept, given this machine's
 # triple and data layout, freed of two x86-64 attributes, and compiled by that clang; its code is not touched.
 set -eu
-cd "$(dirname "$0")/../../.."
+here=$(cd "$(dirname "$0")/../../.." && pwd -P)
+cd "$here"
+repetitions=${1:-200}
+case $repetitions in *[!0-9]* | 0) echo "usage: docs/src/plain/run.sh [REPETITIONS]" >&2; exit 2 ;; esac
+. .ci/kit.sh
+. .ci/made.sh
+command -v rustc >/dev/null 2>&1 || { echo "run.sh: rustc is not on the PATH, so plain.rs cannot be built" >&2; exit 2; }
 machine=$(uname -m)
-kit=$(cd "$(dirname "$(rt doc)")/.." && pwd -P)
-own=$kit/on/$machine
-tools=$own/toolchain
-out=$PWD/target/speed
+out=$here/target/speed
 rm -rf "$out"
 mkdir -p "$out/toolchain/bin"
 
@@ -18,13 +21,13 @@ for tool in ld.lld llvm-ar; do ln -s "$tools/bin/clang" "$out/toolchain/bin/$too
 printf '#!/bin/sh\nfor w in "$@"; do case $w in *.bc) cp "$w" "%s/module.bc" ;; esac; done\nexec "%s/bin/clang" "$@"\n' "$out" "$tools" >"$out/toolchain/bin/clang"
 chmod +x "$out/toolchain/bin/clang"
 
-deps=$(sed -n 's/^speed: //p' crates.txt)
 rt check speed >"$out/check" 2>&1 || { tail "$out/check" >&2; exit 1; }
-set -- "${1:-200}"
-words=''
-for d in $deps; do words="$words --extern $d=target/rlib/$d.rlib"; done
-rattle build --crate-name speed crates/speed/src/lib.rt --crate-type staticlib --toolchain "$out/toolchain" -o "$out/libspeed.a" \
-    --extern "std=$own/rlib/std.rlib" $words -L dependency=target/rlib -L "dependency=$own/rlib" \
+set --
+for d in $(reach speed | sed -n 's/^speed://p'); do
+    if [ -d "crates/$d" ]; then set -- "$@" --extern "$d=target/rlib/$d.rlib"; else set -- "$@" --extern "$d=$own/rlib/$d.rlib"; fi
+done
+"$own/bin/rattle" build --crate-name speed crates/speed/src/lib.rt --crate-type staticlib --toolchain "$out/toolchain" -o "$out/libspeed.a" \
+    --extern "std=$own/rlib/std.rlib" "$@" -L dependency=target/rlib -L "dependency=$own/rlib" \
     --antt-project "$kit/logic/antt-project.json" --logic-built "$own/logic-built" >"$out/build" 2>&1 || { tail "$out/build" >&2; exit 1; }
 
 if [ "$machine" != x86_64 ]; then
@@ -39,4 +42,4 @@ if [ "$machine" != x86_64 ]; then
 fi
 rustc --version
 rustc --edition 2021 -O --cfg ours -L "$out" -l static=speed docs/src/plain/plain.rs -o "$out/both"
-"$out/both" "$1"
+"$out/both" "$repetitions"

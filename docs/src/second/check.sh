@@ -1,12 +1,12 @@
 #!/bin/sh
 # The check before the gate: builds the second program and holds every stored answer against what it writes. Needs rustc and writes only
 # under target/second. Each stored answer has one row `held` below; a program whose answers the second one learns to write gets another.
-set -u
+set -eu
 here=$(cd "$(dirname "$0")/../../.." && pwd -P)
 source=$here/docs/src/second
 work=$here/target/second
-command -v rustc >/dev/null 2>&1 || { echo "check: rustc is not on the PATH, so the second program cannot be built" >&2; exit 1; }
-mkdir -p "$work" || exit 1
+command -v rustc >/dev/null 2>&1 || { echo "check: rustc is not on the PATH, so the second program cannot be built" >&2; exit 2; }
+mkdir -p "$work"
 for part in second vcd ppm; do
     rustc --edition 2021 -O -o "$work/$part" "$source/$part.rs" || { echo "check: $part.rs does not build" >&2; exit 1; }
 done
@@ -18,14 +18,14 @@ same() {
         echo "check: $1 is what the second program writes"
     else
         echo "check: $1 is not what the second program writes; its answers are ${2#"$here"/}:" >&2
-        cmp "$here/$1" "$2" >&2
+        cmp "$here/$1" "$2" >&2 || :
         failed=1
     fi
 }
 
 # held WHAT SCRIPT ANSWERS [ARGUMENT]: the second program, given SCRIPT, writes ANSWERS to the byte.
 held() {
-    "$work/second" ${4:+"$4"} <"$here/$2" >"$work/$1.out" || { echo "check: the second program fails on $2" >&2; failed=1; return; }
+    "$work/second" ${4:+"$4"} <"$here/$2" >"$work/$1.out" || { echo "check: the second program fails on $2" >&2; failed=1; return 0; }
     same "$3" "$work/$1.out"
 }
 
@@ -33,9 +33,9 @@ held bench-screen docs/src/second/bench-screen.txt docs/src/second/bench-screen-
 held bench crates/bench/stdin crates/bench/stdout
 held totals crates/totals/stdin crates/totals/stdout sheet
 # A waveform and a picture, made of its answers.
-"$work/vcd" ticked "$here/crates/trace/stdin" | "$work/second" | "$work/vcd" "$here/crates/trace/stdin" >"$work/trace.out"
+"$work/vcd" ticked "$here/crates/trace/stdin" | "$work/second" | "$work/vcd" "$here/crates/trace/stdin" >"$work/trace.out" || :
 same crates/trace/stdout "$work/trace.out"
-"$work/second" <"$here/crates/draw/stdin" | "$work/ppm" "$here/crates/draw/stdin" >"$work/draw.out"
+"$work/second" <"$here/crates/draw/stdin" | "$work/ppm" "$here/crates/draw/stdin" >"$work/draw.out" || :
 same crates/draw/stdout "$work/draw.out"
 # The bench screen's rows, reasoned by hand, open the stored script.
 if ! head -n "$(wc -l <"$source/bench-screen.txt")" "$here/crates/bench/stdin" | cmp -s - "$source/bench-screen.txt"; then

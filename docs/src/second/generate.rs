@@ -7,7 +7,7 @@
 // SEED is a whole number; one seed gives one script, always the same. A script is
 // a few hundred lines. Most of its screens are accepted, for they are put together
 // within the limits of document 01, "Refusal numbers"; the others miss a limit by
-// one step. Between the commands stand lines of every fault that console.md names.
+// one step. Between the commands stand lines of every fault that docs/SCRIPT.md names.
 //
 // The generator holds no second copy of the rules: it keeps the screen it wrote
 // last, the control it believes in force and, where nothing can have been refused,

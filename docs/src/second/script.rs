@@ -1,10 +1,10 @@
-// The bench script language: console.md, to the letter.
+// The bench script language: docs/SCRIPT.md, to the letter.
 
 use crate::machine::{Machine, Signals, FIRST_CHECKSUM, PARAMETERS};
 use crate::sheet;
 use std::io::{self, Read, Write};
 
-// The limits that console.md sets.
+// The limits that docs/SCRIPT.md sets.
 const LONGEST_LINE: u64 = 1_000;
 const LARGEST_MEMORY: u32 = 1_048_576;
 const LARGEST_PICTURE: u32 = 3_145_728;
@@ -15,7 +15,7 @@ const MOST_COMPARED: usize = 16;
 const ROOM_BEFORE: u8 = 0xAA;
 const BYTES_A_LINE: usize = 32;
 
-/// Why a line is no command: the REASON of console.md.
+/// Why a line is no command: the REASON of docs/SCRIPT.md.
 #[derive(Clone, Copy)]
 enum Fault {
     UnknownCommand,

@@ -1,12 +1,12 @@
 // The second program: an independent machine of document 01, driven by the bench
-// script of console.md.
+// script of docs/SCRIPT.md.
 //
 // Build:   rustc --edition 2021 -O -o second second.rs
 // Use:     second < script          answers as `bench` gives them
 //          second sheet < sheet     the sheet program of document 01,
 //                                   "Screen sheet": four lines, or `refused N`
 //
-// It was written from the papers alone: document 01, console.md, and, for the
+// It was written from the papers alone: document 01, docs/SCRIPT.md, and, for the
 // bit senses and depth codes of control A, document 000. Standard library only.
 // It goes tick by tick and works nothing out ahead, so that it can be checked
 // against the paper by reading.
