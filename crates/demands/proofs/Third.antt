@@ -1,8 +1,9 @@
 -- DEMAND 3 holds of every machine that the calls give from the beginning. Assumes nothing.
-use Prim.Native.Nat.{ℕ, zero, suc, _*_, _≤_}
+use Prim.Native.Nat.{ℕ, zero, suc, _+_, _*_, _≤_}
 use mathlib.Core.Bool.{Bool, false, not, cond}
 use mathlib.Core.List.{List, [], _∷_, _++_}
 use mathlib.Core.Path.{_≡_, refl, sym, ap, _∙_}
+use native.Mathlib.Nat.{add-zero, add-suc}
 use native.Mathlib.Omega.{arith}
 use borrow.Author.Tests.{eq-eqb}
 use lib.ListN.{length}
@@ -11,36 +12,25 @@ use Rattle.base.proofs.Some.{some-none}
 use Rattle.screen.specs.Totals.{frameTicks, framePixels}
 use Rattle.signals.specs.declared.Signals.{Signals}
 use Rattle.registers.specs.declared.Registers.{Registers}
+use Rattle.pixel.specs.Sums.{none, summed}
 use Rattle.generator.specs.Rows.{screen}
 use Rattle.generator.specs.Tick.{tickOf, after}
 use Rattle.generator.specs.declared.Generator.{Generator}
 use Rattle.machine.specs.Rules.{beginning, answered, advanced}
 use Rattle.machine.specs.Conditions.{SoundMachine}
 use Rattle.machine.specs.declared.Machine.{Machine}
-use Rattle.machine.proofs.Soundness.{beginning-sound, advance-sound, calls-sound}
-use Rattle.frame.specs.Frame.{drawn, refusedWithin, frameEnd}
-use Rattle.frame.specs.Demand.{isShown, isTransfer, addressesAnswered, Ready, Demand3 as FrameDemand}
+use Rattle.frame.specs.Frame.{drawn, refusedWithin, sumsTo, frameEnd}
+use Rattle.frame.specs.Demand.{isShown, isTransfer, addressesAnswered, placesShown, Ready, Demand3 as FrameDemand}
+use Rattle.frame.proofs.Whole.{whole}
 use Rattle.frame.proofs.Demand.{demand-3, shown-visible}
 use Rattle.picture.specs.Picture.{pictureRefusal, drawnOf, bufferOf}
 use Rattle.picture.specs.Span.{bytesOf}
 use Rattle.picture.specs.Machines.{ticked, pictured}
-use Rattle.picture.proofs.Machines.{ticked-generator, pictured-ticks, picture-sound}
-use Rattle.demands.specs.Asked.{Asked, of, lent, picture, afterAsked, afterEvery}
-use Rattle.demands.specs.Demand3.{answer, shows, transfers, addresses, colours, Begins, Demand3}
-
--- every call keeps the one condition, and so does any list of them
-asked-sound : (m : Machine) (call : Asked) → SoundMachine m → SoundMachine (afterAsked m call)
-unfolding advanced
-asked-sound m (of call) z = calls-sound m (call ∷ []) z
-asked-sound m (lent memory) z = advance-sound m memory z
-asked-sound m (picture memory buffer) z = picture-sound m memory (length buffer) z
-
-every-sound : (m : Machine) (calls : List Asked) → SoundMachine m → SoundMachine (afterEvery m calls)
-every-sound m [] z = z
-every-sound m (call ∷ rest) z = every-sound (afterAsked m call) rest (asked-sound m call z)
-
-reached-sound : (calls : List Asked) (m : Machine) → m ≡ afterEvery beginning calls → SoundMachine m
-reached-sound calls m e = rw e (every-sound beginning calls beginning-sound)
+use Rattle.picture.proofs.Machines.{ticked-generator, pictured-ticks}
+use Rattle.picture.proofs.Laws.{after-sound}
+use Rattle.demands.specs.Asked.{Asked, afterEvery}
+use Rattle.demands.proofs.Reached.{reached-sound}
+use Rattle.demands.specs.Demand3.{answer, shows, transfers, addresses, colours, places, Begins, Demand3}
 
 count-same : (p q : ℕ → Bool) (n : ℕ) → ((k : ℕ) → p k ≡ q k) → count p n ≡ count q n
 unfolding count
@@ -79,6 +69,11 @@ module _ (m : Machine) (memory : List ℕ) where
     where
       with : Signals → List ℕ → List ℕ
       with s l = cond (s .transfer) (l ++ (s .address ∷ [])) l
+
+  places-is : (n : ℕ) → places m memory n ≡ placesShown r memory g n
+  unfolding places placesShown
+  places-is zero = refl
+  places-is (suc n) = rw (shows-is n, generator-is n, places-is n)
 
 -- the frame that begins with a machine
 module _ (m : Machine) (memory : List ℕ) (z : SoundMachine m) (b : Begins m memory) where
@@ -129,6 +124,16 @@ module _ (m : Machine) (memory : List ℕ) (z : SoundMachine m) (b : Begins m me
   frame-end : ticked m memory F ≡ record { regs = m .regs; generator = frameEnd (m .regs) memory }
   frame-end = ticked-generator m memory F ∙ ap (λ (x : Generator). record { regs = m .regs; generator = x }) (d .end)
 
+  -- it leaves the sums of the colours put out
+  end-sums : frameEnd (m .regs) memory .sums ≡ summed none (colours m memory F)
+  unfolding frameEnd sumsTo
+  end-sums =
+      let w = whole (m .regs) memory (m .generator) z (b .running-now) (b .at-start) in
+      simp (b .unblanked) (ap (summed none) (sym (colours-is F (omega arith) ∙ w .colours (sym (w .refusal) ∙ unrefused-frame))))
+
+  frame-sums : ticked m memory F .generator .sums ≡ summed none (colours m memory F)
+  frame-sums = ap (λ (x : Machine). x .generator .sums) frame-end ∙ end-sums
+
 -- another machine with the same registers ends its frame so too
 same-end : (m n : Machine) (memory : List ℕ) → SoundMachine m → SoundMachine n → Begins m memory → Begins n memory → n .regs ≡ m .regs →
     ticked n memory (frameTicks (screen (m .regs))) ≡ ticked m memory (frameTicks (screen (m .regs)))
@@ -137,6 +142,37 @@ same-end m n memory z y b c e =
     ∙ frame-end n memory y c
     ∙ ap (λ (r : Registers). record { regs = r; generator = frameEnd r memory }) e
     ∙ sym (frame-end m memory z b)
+
+-- ticks after ticks
+ticked-more : (m : Machine) (memory : List ℕ) (a b : ℕ) → ticked m memory (a + b) ≡ ticked (ticked m memory a) memory b
+unfolding ticked
+ticked-more m memory a zero = rw add-zero
+ticked-more m memory a (suc b) = rw add-suc (ap (λ (x : Machine). advanced x memory .machine) (ticked-more m memory a b))
+
+-- what a frame leaves is ready for the next, which ends as it did
+module _ (m : Machine) (memory : List ℕ) (z : SoundMachine m) (b : Begins m memory) where
+  abbrev left : Machine
+  left = record { regs = m .regs; generator = after (m .regs) memory (m .generator) (F m memory z b) }
+
+  left-sound : SoundMachine left
+  left-sound = after-sound (m .regs) memory (m .generator) z (F m memory z b)
+
+  left-begins : Begins left memory
+  left-begins =
+      record {
+        running-now = b .running-now;
+        at-start = d m memory z b .returns;
+        transferring-now = b .transferring-now;
+        unblanked = b .unblanked;
+        room = b .room;
+        unrolled = b .unrolled;
+      }
+
+  second : ticked m memory (F m memory z b + F m memory z b) ≡ ticked m memory (F m memory z b)
+  second =
+      ticked-more m memory (F m memory z b) (F m memory z b)
+      ∙ ap (λ (x : Machine). ticked x memory (F m memory z b)) (ticked-generator m memory (F m memory z b))
+      ∙ same-end m left memory z left-sound b left-begins refl
 
 -- DEMAND 3
 pub demand-3-reached : (calls : List Asked) (m : Machine) → m ≡ afterEvery beginning calls → (memory : List ℕ) → Begins m memory → Demand3 m memory
@@ -153,10 +189,13 @@ demand-3-reached calls m reached memory b =
       visible = count-same _ _ (frameTicks (screen r)) (shows-is m memory) ∙ d .visible;
       transferred = count-same _ _ (frameTicks (screen r)) (transfers-is m memory) ∙ d .transfers;
       addressed = addresses-is m memory (frameTicks (screen r)) ∙ d .addresses;
-      placed = d .places;
+      placed = places-is m memory (frameTicks (screen r)) ∙ d .places;
+      coloured = colours-is m memory z b (frameTicks (screen r)) (omega arith) ∙ d .dots;
+      summed-up = frame-sums m memory z b;
       pictured-now = picture-free m memory z b;
       pictured-bytes = picture-bytes m memory z b;
       pictured-machine = picture-machine m memory z b;
       pictured-reads = λ buffer size address. ap (λ (x : Machine). answered x address) (picture-machine m memory z b buffer size);
       same-end = λ others n met same c. same-end m n memory z (reached-sound others n met) b c same;
+      second-frame = second m memory z b;
     }

@@ -1,14 +1,23 @@
 -- DEMAND 1: every call ends with an answer; bad input is refused by document 01's number, the first in its order; a refused call leaves the
--- machine and all lent memory as they were, and answers 0 for all else. m: the machine, any one. Assumes nothing.
-use Prim.Native.Nat.{ℕ}
-use mathlib.Core.Bool.{Bool, not, cond, _&&_}
+-- machine and all lent memory as they were, and answers 0 for all else. m: the machine, any one; the calls without a machine have a record
+-- of their own. Assumes nothing.
+use Prim.Native.Nat.{ℕ, _+_, _*_, _^_}
+use mathlib.Core.Bool.{Bool, false, not, cond, _&&_, _||_}
 use mathlib.Core.List.{List, [], _∷_}
 use mathlib.Core.Path.{_≡_}
-use lib.ListN.{length}
+use lib.Dec.{ltb, eqb}
+use lib.ListN.{length, getD, drop, replicate}
 use Rattle.control.specs.Control.{running}
+use Rattle.units.specs.declared.Screen.{Screen}
 use Rattle.screen.specs.Range.{refuses10}
 use Rattle.screen.specs.Limits.{refuses11, refuses12, refuses13, refuses14, refuses15, refuses16, refuses17}
-use Rattle.screen.specs.Totals.{frameTicks}
+use Rattle.screen.specs.Totals.{frameTicks, refused, totalsOf}
+use Rattle.sheet.specs.Encoding.{tags, over}
+use Rattle.sheet.specs.Reader.{pair, readSheet}
+use Rattle.sheet.specs.Writer.{writeRefusal, roomWritten}
+use Rattle.sheet.specs.Field.{fieldOf}
+use Rattle.vault.specs.Compare.{compared}
+use Rattle.station.specs.Number.{checksumsNumber, fieldNumber}
 use Rattle.registers.specs.Map.{placeOf, isControl, isReserved}
 use Rattle.signals.specs.Signals.{silent}
 use Rattle.generator.specs.Rows.{screen}
@@ -83,3 +92,57 @@ pub record Demand1 (m : Machine) : Type 0 where
   pub picture-refused :
       (memory buffer : List ℕ) → (pictured m memory (length buffer) .refusal ≡ 0 → ⊥) →
       (pictured m memory (length buffer) .machine ≡ m) × (bufferOf (m .regs) memory (m .generator) buffer ≡ buffer)
+
+-- ---- the calls without a machine
+
+-- a sheet is read left to right. At each field due: 30 if fewer than three bytes are left, 31, 32, then 30 if fewer than two are left past those
+-- three; 33 after the last field
+abbrev pub sheetOrder : List ℕ → List ℕ → List Refusal
+sheetOrder [] left = when (not (eqb (length left) 0)) 33 ∷ []
+sheetOrder (tag ∷ due) left =
+    when (ltb (length left) 3) 30 ∷
+    when (not (eqb (getD left 0 0) tag)) 31 ∷
+    when (not (eqb (pair left 1) 2)) 32 ∷
+    when (ltb (length (drop 3 left)) 2) 30 ∷
+    sheetOrder due (drop 5 left)
+
+-- a sheet is written: 34, 35; one field by its tag: 31 for a tag outside first, then the sheet's own; two checksums to compare: 24 for either
+abbrev pub sheetWriteOrder : List ℕ → List ℕ → List Refusal
+sheetWriteOrder values room = when (over values) 34 ∷ when (ltb (length room) 70) 35 ∷ []
+
+abbrev pub fieldOrder : List ℕ → ℕ → List Refusal
+fieldOrder sheet tag = when (ltb tag 0x21 || ltb 0x2E tag) 31 ∷ sheetOrder tags sheet
+
+abbrev pub compareOrder : List ℕ → List ℕ → List Refusal
+compareOrder a b = when (not (eqb (length a) 9)) 24 ∷ when (not (eqb (length b) 9)) 24 ∷ []
+
+-- a screen's totals: 10 to 17
+abbrev pub totalsOrder : ℕ → Screen → List Refusal
+totalsOrder control s =
+    when (refuses10 s) 10 ∷
+    when (refuses11 s) 11 ∷
+    when (refuses12 s) 12 ∷
+    when (refuses13 s) 13 ∷
+    when (refuses14 s) 14 ∷
+    when (refuses15 control s) 15 ∷
+    when (refuses16 s) 16 ∷
+    when (refuses17 s) 17 ∷
+    []
+
+pub record Paper : Type 0 where
+  pub sheet : (sheet : List ℕ) → readSheet sheet .refusal ≡ firstOf (sheetOrder tags sheet)
+  pub sheet-refused : (sheet : List ℕ) → (readSheet sheet .refusal ≡ 0 → ⊥) → readSheet sheet .values ≡ replicate 14 0
+  -- refused, the room lent for a sheet is byte for byte as it was
+  pub sheet-written : (values room : List ℕ) → writeRefusal values room ≡ firstOf (sheetWriteOrder values room)
+  pub sheet-write-refused : (values room : List ℕ) → (writeRefusal values room ≡ 0 → ⊥) → roomWritten values room ≡ room
+  pub field : (sheet : List ℕ) (tag : ℕ) → fieldOf sheet tag .refusal ≡ firstOf (fieldOrder sheet tag)
+  pub field-refused : (sheet : List ℕ) (tag : ℕ) → (fieldOf sheet tag .refusal ≡ 0 → ⊥) → fieldOf sheet tag .value ≡ 0
+  pub compare : (a b : List ℕ) → compared a b .refusal ≡ firstOf (compareOrder a b)
+  pub compare-refused : (a b : List ℕ) → (compared a b .refusal ≡ 0 → ⊥) → compared a b .equal ≡ false
+  -- the two as the host's program in C is answered: the refusal in bits 63 to 32, the rest below
+  pub host-field : (sheet : List ℕ) (tag : ℕ) → fieldNumber sheet tag ≡ firstOf (fieldOrder sheet tag) * 2 ^ 32 + fieldOf sheet tag .value
+  pub host-compare : (a b : List ℕ) → checksumsNumber a b ≡ firstOf (compareOrder a b) * 2 ^ 32 + cond (compared a b .equal) 1 0
+  -- what one frame of a screen comes to; `refused` has 0 for all else
+  pub totals : (control : ℕ) (s : Screen) → totalsOf control s .refusal ≡ firstOf (totalsOrder control s)
+  pub totals-refused :
+      (control : ℕ) (s : Screen) → (totalsOf control s .refusal ≡ 0 → ⊥) → totalsOf control s ≡ refused (totalsOf control s .refusal)

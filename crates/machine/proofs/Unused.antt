@@ -42,7 +42,7 @@ module _ (c d : ℕ) (m : SameMode c d) where
   same-bit : (n : ℕ) → field n 1 d ≡ field n 1 c → bit n d ≡ bit n c
   same-bit n e = rw e
 
-  same-running : running d ≡ running c
+  pub same-running : running d ≡ running c
   same-running = same-bit 0 (omega (arith, m .low))
 
   same-blank : forcedBlank d ≡ forcedBlank c
@@ -80,7 +80,7 @@ module _ (r other : Registers) (n : ℕ) (a : Alike r other n) where
   same-limit = rw (a .line-start, same-depth c d (a .mode))
 
   module _ (g : Generator) where
-    same-visible : visibleAt other g ≡ visibleAt r g
+    pub same-visible : visibleAt other g ≡ visibleAt r g
     unfolding visibleAt visible period inLine secondHalf lineFrom
     same-visible = rw (a .line-start)
 

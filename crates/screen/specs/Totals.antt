@@ -41,5 +41,7 @@ frameTotals s =
 abbrev pub refused : ℕ → Totals
 refused n = record { refusal = n; ticks = record { 0 = 0 }; visible = record { 0 = 0 }; transfers = 0; pixels = record { 0 = 0 } }
 
+-- the control word is asked for the limits alone, and they look at its depth and at nothing else: bit 0 counts no more than the rest, a word with
+-- transfers off gets the transfers that it would have with them on, and one outside the build what its two bits of depth say
 unfoldable pub totalsOf : ℕ → Screen → Totals
 totalsOf control s = cond (eqb (limitOf control s) 0) (frameTotals s) (refused (limitOf control s))
