@@ -1,2 +1,4 @@
--- Laws of many ticks.
+-- Laws of many ticks: one by one, in parts, over whole frames.
 pub mod Running
+pub mod Parts
+pub mod Frames

@@ -1,9 +1,11 @@
 -- What callers know of control A's two tables, each rule from one test over the whole table. Assumes nothing.
-use Prim.Native.Nat.{ℕ, _+_, _*_, _^_, _<_}
+use Prim.Native.Nat.{ℕ, suc, _+_, _*_, _^_, _<_}
 use mathlib.Core.Path.{_≡_}
 use mathlib.Core.Bool.{cond}
+use mathlib.Core.List.{List, [], _∷_}
 use native.Mathlib.Omega.{arith}
 use lib.Dec.{leb, eqb, eqb→eq, leb→le}
+use lib.ListN.{getD}
 use Rattle.base.proofs.Table.{entry}
 use Rattle.control.specs.Control.{field, depth, pixelBits, shiftPeriods, shiftPeriod, increments, increment}
 
@@ -21,6 +23,16 @@ pub increment-rule : (control : ℕ) → increment control ≡ cond (eqb (field 
 increment-rule control =
     eqb→eq _ _
     (entry (λ code value. eqb value (cond (eqb code 0) 1 (2 ^ (code + 7)))) increments tt (field 12 2 control) (omega arith))
+
+-- the powers of two that they are: 0, 8, 9, 10
+abbrev pub incrementPowers : List ℕ
+incrementPowers = 0 ∷ 8 ∷ 9 ∷ 10 ∷ []
+
+pub increment-power-rule : (code : ℕ) → code < 4 → (2 ^ getD incrementPowers code 0 ≡ getD increments code 0) × (getD incrementPowers code 0 < 32)
+increment-power-rule code h = (
+  eqb→eq _ _ (entry (λ k power. eqb (2 ^ power) (getD increments k 0)) incrementPowers tt code h),
+  leb→le _ _ (entry (λ k power. leb (suc power) 32) incrementPowers tt code h),
+)
 
 -- an increment is never 0
 pub increment-positive : (control : ℕ) → 0 < increment control

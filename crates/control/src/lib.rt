@@ -1,5 +1,6 @@
 // Control A (01, "Register map"): which words are in the build, and what their bits mean. Any number may be asked about.
 ghost use mathlib.Core.Path.{_≡_};
+ghost use Prim.Native.Nat.{_^_, _<_};
 ghost use Rattle.control.specs.Control.{running, plain, forcedBlank, transferring, cursorOn, outside, depth, shiftPeriod, increment};
 
 // In screen units, by depth: 1, 2, 4 and 8 bits.
@@ -7,6 +8,9 @@ const SHIFT_PERIODS: [u32; 4] = [16, 8, 4, 2];
 
 // By bits 13 and 12.
 const INCREMENTS: [u32; 4] = [1, 256, 512, 1024];
+
+// The same as powers of two.
+const INCREMENT_POWERS: [u32; 4] = [0, 8, 9, 10];
 
 // Bit 0: the generator runs.
 pub fn is_running(control: u32) -> bool
@@ -75,4 +79,13 @@ pub fn address_increment(control: u32) -> u32
 {
     let code = (control / 0x1000 % 4) as usize;
     INCREMENTS[code]
+}
+
+// The power of two that it is, so that an address is divided by it by a shift.
+pub fn increment_power(control: u32) -> u32
+    ensures power { λ r. ⌜ 2 ^ r ≡ increment control ⌝ }
+    ensures bound { λ r. ⌜ r < 32 ⌝ }
+{
+    let place = (control / 0x1000 % 4) as usize;
+    INCREMENT_POWERS[place]
 }

@@ -1,8 +1,8 @@
 -- The cursor (01, "Rows and pixels"): 64 by 64 pixels from a signed position. Assumes nothing.
 use Prim.Native.Nat.{ℕ, zero, suc, _+_, _*_, _/_, _%_, _^_, min}
-use mathlib.Core.Bool.{cond, _&&_}
+use mathlib.Core.Bool.{Bool, cond, _&&_}
 use mathlib.Core.List.{List}
-use lib.Dec.{ltb}
+use lib.Dec.{ltb, leb}
 use lib.IntN.{ℤ, pos, negsuc, _-ℤ_}
 use lib.ListN.{getD}
 use Rattle.control.specs.Control.{field, cursorOn}
@@ -40,6 +40,22 @@ codeOver control position store x y = cond (cursorOn control) (cursorCode store 
 abbrev pub over : List ℕ → ℕ → ℕ → ℕ
 over colours zero below = below
 over colours (suc k) below = getD colours k 0
+
+-- a 12-bit field in two's complement, counted from -2,048
+abbrev pub biased : ℕ → ℕ
+biased field = (field + 2048) % 4096
+
+-- the pixels of a tick after its first
+abbrev pub others : ℕ
+others = 3
+
+-- one of the four pixels from x on may lie in the 64 by 64, all counted so
+abbrev pub near : ℕ → ℕ → ℕ → Bool
+near position x y =
+    leb (biased (position % 0x1000)) (y + 2048) &&
+    ltb (y + 2048) (biased (position % 0x1000) + 64) &&
+    leb (biased (position / 0x1000 % 0x1000)) (x + 2048 + others) &&
+    ltb (x + 2048) (biased (position / 0x1000 % 0x1000) + 64)
 
 -- a column or a row within the 64; outside it is put at 64
 abbrev pub within : ℤ → ℕ

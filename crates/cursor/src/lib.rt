@@ -4,7 +4,7 @@ ghost use Prim.Native.Nat.{_<_};
 ghost use lib.IntN.{pos, _-ℤ_};
 ghost use lib.ListN.{getD};
 ghost use Rattle.control.specs.Control.{field};
-ghost use Rattle.cursor.specs.Cursor.{signed12, within, codeAt, cursorCode, over};
+ghost use Rattle.cursor.specs.Cursor.{signed12, within, codeAt, cursorCode, near, over};
 
 // The low 12 bits of a word, in two's complement.
 fn signed_field(word: u32) -> i64
@@ -55,6 +55,18 @@ pub fn cursor_code(store: &[u16; 512], position: u32, x: u32, y: u32) -> u32
         }
     }
     0
+}
+
+// The cursor may cover one of four pixels, the first of which is pixel x of line y. Columns and lines are counted from -2,048, where a signed
+// position begins.
+pub fn is_near(position: u32, x: u32, y: u32) -> bool
+    ensures test { λ b. ⌜ b ≡ near position x y ⌝ }
+{
+    let first = ((position / 0x1000 % 0x1000 + 2048) % 0x1000) as u64;
+    let top = ((position % 0x1000 + 2048) % 0x1000) as u64;
+    let column = x as u64 + 2048;
+    let line = y as u64 + 2048;
+    (top <= line) & (line < top + 64) & (first <= column + 3) & (column < first + 64)
 }
 
 // One of the three cursor colours, from 0; past them there is none.

@@ -3,4 +3,5 @@ pub mod Rows
 pub mod VisibleBefore
 pub mod FirstVisible
 pub mod Puts
+pub mod Bare
 pub mod Kept

@@ -3,17 +3,22 @@ use Prim.Native.Nat.{ℕ, zero, suc, _+_, _*_, _/_, _%_, _^_, _≤_, _<_}
 use mathlib.Core.Bool.{Bool, true, false, not, cond, _&&_}
 use mathlib.Core.List.{List, [], _∷_}
 use mathlib.Core.Path.{_≡_, refl, sym, ap, _∙_}
-use native.Mathlib.Nat.{mod-lt}
+use native.Mathlib.Nat.{zero-add}
 use native.Mathlib.Omega.{arith}
 use Rattle.base.specs.Count.{count, some, run}
-use Rattle.control.specs.Control.{running, transferring, pixelBits}
+use Rattle.control.specs.Control.{running, forcedBlank, transferring, cursorOn, pixelBits}
 use Rattle.units.specs.declared.Screen.{Screen}
 use Rattle.registers.specs.declared.Registers.{Registers}
 use Rattle.signals.specs.Signals.{black, silent}
 use Rattle.signals.specs.declared.Dot.{Dot}
 use Rattle.signals.specs.declared.Signals.{Signals}
 use Rattle.memory.specs.Memory.{endsBeyond}
-use Rattle.pixel.specs.Dot.{dotAt}
+use Rattle.pixel.specs.Dot.{dotBelow, dotAt}
+use Rattle.pixel.proofs.Laws.{dot-uncovered}
+use Rattle.cursor.specs.Cursor.{near}
+use Rattle.cursor.proofs.Clear.{near-none}
+use Rattle.registers.specs.File.{numbersOf}
+use Rattle.pixel.specs.declared.Spot.{Spot}
 use Rattle.pixel.specs.Sums.{clearedAt, summedWhere}
 use Rattle.pixel.specs.declared.Sums.{Sums}
 use Rattle.memory.proofs.Laws.{ends-beyond-later}
@@ -27,8 +32,9 @@ use Rattle.screen.proofs.limits.Laws.{narrow}
 use Rattle.lines.specs.Lines.{visible, opens, tickNumber, visibleBefore, momentOf}
 use Rattle.lines.specs.declared.Moment.{Moment}
 use Rattle.generator.proofs.stand.Bounds.{lines-in}
-use Rattle.generator.proofs.VisibleBefore.{visible-line}
-use Rattle.base.proofs.Bools.{or-second}
+use Rattle.generator.proofs.VisibleBefore.{visible-line, column-by, line-by}
+use Rattle.base.proofs.Bools.{both-hold, or-second}
+use Rattle.base.proofs.Run.{run-same}
 
 -- where a test that passes goes on passing, one of a run of numbers passes exactly where the last does
 some-last : (test : ℕ → Bool) → ((k : ℕ) → test k ≡ true → test (suc k) ≡ true) → (n : ℕ) → some test (suc n) ≡ test n
@@ -59,13 +65,24 @@ module _ (r : Registers) (m : List ℕ) (g : Generator) (t : Stand) (st : Stands
       later : (k : ℕ) → endsBeyond (pixelBits (r .control)) m (place r (heldAddress r g) (g .seen .0) k) ≡ true → endsBeyond (pixelBits (r .control)) m (place r (heldAddress r g) (g .seen .0) (suc k)) ≡ true
       later k e = ends-beyond-later (pixelBits (r .control)) m _ _ (omega (arith, place-at k, place-at (suc k))) e
 
-  pub dot-by : (k : ℕ) (d : Dot) → d ≡ dotAt r (r .position) m (t .place + k) (4 * (g .seen .0 % t .screen .display .0) + k) (g .seen .0 / t .screen .display .0) → d ≡ dotOf r m (heldAddress r g) (g .seen .0) k
-  unfolding dotOf
-  dot-by k d e = e ∙ rw (place-at k, st .screen-is)
+  -- the four pixels of a tick whose first one is spotted: under the cursor, and away from it
+  pub dots-lit : t .shows ≡ true → (four : List Dot) → four ≡ run (dotOf r m (heldAddress r g) (g .seen .0)) 0 4 → four ≡ dots r m g
+  unfolding dots
+  dots-lit s four e = e ∙ simp (← (st .shows-is), s)
 
-  pub dots-lit : t .shows ≡ true → (a b c d : Dot) → a ≡ dotOf r m (heldAddress r g) (g .seen .0) 0 → b ≡ dotOf r m (heldAddress r g) (g .seen .0) 1 → c ≡ dotOf r m (heldAddress r g) (g .seen .0) 2 → d ≡ dotOf r m (heldAddress r g) (g .seen .0) 3 → a ∷ b ∷ c ∷ d ∷ [] ≡ dots r m g
-  unfolding dots run
-  dots-lit s a b c d ea eb ec ed = rw (ea, eb, ec, ed) (simp (← (st .shows-is), s))
+  module _ (at : Spot) (spot : at ≡ record { place = t .place; x = 4 * (g .seen .0 % t .screen .display .0); y = g .seen .0 / t .screen .display .0 }) where
+    dot-by : (k : ℕ) → dotAt r (r .position) m (at .place + k) (at .x + k) (at .y) ≡ dotOf r m (heldAddress r g) (g .seen .0) k
+    unfolding dotOf
+    dot-by k = rw (spot, place-at k, st .screen-is)
+
+    pub covered-by : run (λ k. dotAt r (r .position) m (at .place + k) (at .x + k) (at .y)) 0 4 ≡ run (dotOf r m (heldAddress r g) (g .seen .0)) 0 4
+    covered-by = run-same _ _ 0 0 4 (λ k l. dot-by (0 + k))
+
+    pub uncovered-by : (cursorOn (r .control) && near (r .position) (at .x) (at .y)) ≡ false →
+        run (λ k. dotBelow (numbersOf r) (r .palette) m (t .place + k)) 0 4 ≡ run (dotOf r m (heldAddress r g) (g .seen .0)) 0 4
+    uncovered-by n = run-same _ _ 0 0 4 (λ k l.
+        let e : t .place ≡ at .place = rw spot in
+        rw (e, zero-add k) (dot-uncovered r (r .position) m (at .place + k) (at .x + k) (at .y) (near-none (r .control) (r .position) (at .x) (at .y) n (r .store) k l) ∙ dot-by k))
 
   pub dots-dark : t .shows ≡ false → black ∷ black ∷ black ∷ black ∷ [] ≡ dots r m g
   unfolding dots run
@@ -93,13 +110,35 @@ module _ (r : Registers) (g : Generator) (k : Runs r g) (s : Screen) (e : s ≡ 
   pub display-some : 0 < s .display .0
   display-some = rw e (k .accepted .bounded .display .low)
 
-  pub column-in : g .seen .0 % s .display .0 ≤ 0xFFFFFF
-  column-in = rw e (omega (arith, mod-lt (g .seen .0) {m = screen r .display .0} (k .accepted .bounded .display .low), k .accepted .bounded .display .high))
+  pub display-most : s .display .0 ≤ 0xFFFFFF
+  display-most = rw e (omega (arith, k .accepted .bounded .display .high))
 
   pub line-in : g .seen .0 / s .display .0 < 2 ^ 32
   line-in =
       rw e (rw (k .placed .seen-is)
       (omega (arith, visible-line (r .control) (screen r) (k .accepted) (g .half .0) (g .at .0) (k .placed .at-in), k .placed .half-in, k .accepted .bounded)))
+
+-- the spot that a visible tick's moment names, in terms of the ticks counted
+module _ (r : Registers) (g : Generator) (k : Runs r g) (t : Stand) (st : Stands r g t) (on : t .shows ≡ true) where
+  shown : visible (screen r) (g .half .0) (g .at .0) ≡ true
+  unfolding shows visibleAt
+  shown = both-hold (visibleAt r g) (not (forcedBlank (r .control))) (sym (st .shows-is) ∙ on) .0
+
+  pub spot-column : t .moment .column ≡ g .seen .0 % t .screen .display .0
+  unfolding momentOf
+  spot-column =
+      ap (λ (x : Moment). x .column) (st .moment-is)
+      ∙ rw (st .screen-is, k .placed .seen-is) (column-by (r .control) (screen r) (k .accepted) (g .half .0) (g .at .0) (k .placed .at-in) shown)
+
+  pub spot-line : t .moment .line ≡ g .seen .0 / t .screen .display .0
+  unfolding momentOf
+  spot-line =
+      ap (λ (x : Moment). x .line) (st .moment-is)
+      ∙ rw (st .screen-is, k .placed .seen-is) (line-by (r .control) (screen r) (k .accepted) (g .half .0) (g .at .0) (k .placed .at-in) shown)
+
+  pub spot-by : (at : Spot) → at ≡ record { place = t .place; x = 4 * t .moment .column; y = t .moment .line } →
+      at ≡ record { place = t .place; x = 4 * (g .seen .0 % t .screen .display .0); y = g .seen .0 / t .screen .display .0 }
+  spot-by at e = e ∙ rw (spot-column, spot-line)
 
 one-more : (b : Bool) (c n : ℕ) → c ≤ n → cond b (c + 1) c ≤ suc n
 one-more true c n p = omega arith

@@ -1,23 +1,24 @@
 -- How many visible ticks lie before a position of the frame: the count, in closed form, whichever half of a line VDisplay begins with; and the
--- two laws of this format, that VDisplay begins with a first half and has whole lines. Assumes nothing.
+-- two laws of this format, that VDisplay begins with a first half and has whole lines; and the column and the line that the count gives.
+-- Assumes nothing.
 use Prim.Native.Nat.{ℕ, zero, suc, _+_, _-_, _*_, _/_, _%_, _≤_, _<_, min}
-use mathlib.Core.Bool.{Bool, true, false, cond, _&&_}
+use mathlib.Core.Bool.{Bool, true, false, cond, _&&_, true≢false}
 use mathlib.Core.Path.{_≡_, refl, sym, _∙_}
 use mathlib.Core.Logic.{_⊎_, ⊎-elim}
 use native.Mathlib.Nat.{mod-lt, mod-eq-of-lt, div-eq-of-lt-le, div-lt-iff-lt-mul, div-add-mod', mul-add-mod-self-right, mul-le-mul-right, mul-pos, mul-comm, zero-mul, zero-div, zero-mod, add-zero, add-suc, le-trans}
 use native.Mathlib.Numerals.{add-one}
 use native.Mathlib.Omega.{arith}
-use borrow.Author.Tests.{lt-ltb, le-ltb, le-leb, lt-leb, ne-eqb}
+use borrow.Author.Tests.{ltb-true, leb-true, lt-ltb, le-ltb, le-leb, lt-leb, ne-eqb}
 use lib.Dec.{ltb, leb}
 use Rattle.base.specs.Count.{count}
 use Rattle.units.specs.Parameters.{halfTicks, displayFrom, halvesToVBlank, halvesToVDisplay, halvesInFrame}
 use Rattle.screen.specs.Limits.{Accepted}
 use Rattle.screen.specs.Totals.{frameTicks, frameVisible}
 use Rattle.units.specs.declared.Screen.{Screen}
-use Rattle.lines.specs.Lines.{period, isVDisplay, lineOf, secondHalf, inLine, inDisplay, visible, lead, tickNumber, visibleBefore}
+use Rattle.lines.specs.Lines.{period, isVDisplay, lineOf, secondHalf, inLine, inDisplay, visible, lead, columnOf, linesAbove, tickNumber, visibleBefore}
 use Rattle.lines.proofs.Halves.{second-since-vblank, in-line-even, line-of-even, first-next, first-line, first-in, second-next, second-line, second-in, in-line-next, line-least, line-most, in-line-least}
 use Rattle.lines.specs.declared.Period.the-variants.{PreEqualise, VSync, PostEqualise, VBlank}
-use Rattle.base.proofs.Bools.{below}
+use Rattle.base.proofs.Bools.{below, both-hold}
 
 dark-period : (a b c : Bool) → isVDisplay (cond a PreEqualise (cond b VSync (cond c PostEqualise VBlank))) ≡ false
 dark-period true b c = refl
@@ -215,3 +216,28 @@ module _ (control : ℕ) (s : Screen) (ok : Accepted control s) where
       let e : frameTicks s ≡ tickNumber s (halvesInFrame s) 0 = omega (arith, mul-comm (halfTicks s) (halvesInFrame s)) in
       let n : lineOf s (halvesInFrame s) - lineOf s (halvesToVDisplay s) ≡ s .vdisplay .0 / 2 = omega (arith, line-of-even s (halvesToVDisplay s) (s .vdisplay .0) (ok .display-even)) in
       rw e (visible-closed (halvesInFrame s) 0 some-ticks (omega arith) ∙ rw (n, in-line-even s (halvesToVDisplay s) (s .vdisplay .0) 0 (ok .display-even)) (omega (arith, mul-comm (s .vdisplay .0 / 2) (s .display .0))))
+
+  -- THE COLUMN AND THE LINE OF A VISIBLE TICK follow from where it stands: they are what the count leaves and gives, divided by Display. This
+  -- rests on `lead-none`: with a lead, the count is short by it in every line
+  module _ (h u : ℕ) (p : u < halfTicks s) (v : visible s h u ≡ true) where
+    from-vdisplay : halvesToVDisplay s ≤ h
+    from-vdisplay = ⊎-elim (λ q. absurd (true≢false (sym v ∙ dark s h u q))) (λ q. q) (below h (halvesToVDisplay s))
+
+    in-display : (displayFrom s ≤ inLine s h u) × (inLine s h u < displayFrom s + s .display .0)
+    in-display =
+        let e = both-hold _ _ (sym (lit s h u from-vdisplay) ∙ v) in
+        (leb-true _ _ (e .0), ltb-true _ _ (e .1))
+
+    column-in : columnOf s h u < s .display .0
+    unfolding columnOf
+    column-in = omega (arith, in-display)
+
+    count-spot : visibleBefore s (tickNumber s h u) ≡ linesAbove s h * s .display .0 + columnOf s h u
+    unfolding columnOf linesAbove
+    count-spot = visible-closed h u p from-vdisplay ∙ omega (arith, in-display, lead-none)
+
+    pub column-by : columnOf s h u ≡ visibleBefore s (tickNumber s h u) % s .display .0
+    column-by = sym (rw count-spot (number-at (linesAbove s h) (columnOf s h u) (s .display .0) column-in))
+
+    pub line-by : linesAbove s h ≡ visibleBefore s (tickNumber s h u) / s .display .0
+    line-by = sym (rw count-spot (number-half (linesAbove s h) (columnOf s h u) (s .display .0) column-in))

@@ -3,26 +3,29 @@ mod output;
 mod stand;
 
 ghost use mathlib.Core.Path.{_≡_};
+ghost use Prim.Native.Nat.{_^_, _<_};
+ghost use Rattle.registers.specs.File.{fileOf, bare};
 ghost use Rattle.generator.specs.Sound.{Sound};
 ghost use Rattle.generator.specs.Stand.{Runs};
 ghost use Rattle.generator.specs.Tick.{tickOf};
 ghost use Rattle.generator.specs.Counters.{displaying, fresh};
 ghost use Rattle.generator.specs.Rows.{topUsed, rowDivisor};
 use pixel::Sums;
+use registers::Numbers;
 use registers::Registers;
 use signals::Signals;
 use units::HalfLines;
 use units::ScreenUnits;
 
-// The next tick's half line and its number in that half line; the frame's visible ticks so far; the last address; the request at the
-// last visible tick; the checksums.
+// The next tick's half line and its number in that half line; the frame's visible ticks so far; the last address; the checksums; the
+// request at the last visible tick.
 pub struct Generator {
     pub half: HalfLines,
     pub at: ScreenUnits,
     pub seen: ScreenUnits,
     pub held: u32,
-    pub asked: bool,
     pub sums: Sums,
+    pub asked: bool,
 }
 
 impl Generator {
@@ -35,8 +38,8 @@ impl Generator {
             at: ScreenUnits(0),
             seen: ScreenUnits(0),
             held: 0,
-            asked: false,
             sums: Sums::none(),
+            asked: false,
         }
     }
 }
@@ -49,24 +52,24 @@ pub fn is_displaying(r: Registers, g: Generator) -> bool
     let params = r.params;
     let runs = control::is_running(r.control);
     if runs {
-        let moment = lines::moment_of(params, false, g.half.0 as u32, 0);
-        return moment.vdisplaying;
+        return lines::is_vdisplay(params, g.half.0 as u32);
     }
     false
 }
 
 // The top of screen that a frame starts at.
-pub fn top_used(r: Registers) -> u32
-    ensures top { λ a. ⌜ a ≡ topUsed r ⌝ }
+pub fn top_used(n: Numbers) -> u32
+    ensures top { λ a. ⌜ a ≡ topUsed (bare n) ⌝ }
 {
-    r.top
+    n.top
 }
 
-// What an address is divided by for its row's number.
-pub fn row_divisor(r: Registers) -> u32
-    ensures divisor { λ n. ⌜ n ≡ rowDivisor r ⌝ }
+// What an address is divided by for its row's number, as a power of two.
+pub fn row_power(n: Numbers) -> u32
+    ensures divisor { λ p. ⌜ 2 ^ p ≡ rowDivisor (bare n) ⌝ }
+    ensures bound { λ p. ⌜ p < 32 ⌝ }
 {
-    control::address_increment(r.control)
+    control::increment_power(n.control)
 }
 
 // A tick's refusal or 0, what it puts out, and the generator after it.
@@ -77,15 +80,23 @@ pub struct Ticked {
 }
 
 // A tick of a running generator.
-fn running_tick(r: Registers, g: Generator, memory: &[u8]) -> Ticked
-    requires { ⌜ Runs r g ⌝ }
-    ensures ticked { λ n. ⌜ n ≡ tickOf r (now (memory .entry)) g ⌝ }
+fn running_tick(
+    n: Numbers,
+    colours: &[u32; 3],
+    palette: &[u32; 256],
+    store: &[u16; 512],
+    g: Generator,
+    memory: &[u8],
+) -> Ticked
+    requires { ⌜ Runs (bare n) g ⌝ }
+    ensures ticked { λ t. ⌜
+        t ≡ tickOf (fileOf n (now (colours .entry)) (now (palette .entry)) (now (store .entry))) (now (memory .entry)) g ⌝ }
 {
-    let t = stand::stand_of(r, g);
-    let dots = output::dots_of(r, g, t, memory);
+    let t = stand::stand_of(n, g);
+    let dots = output::dots_of(n, colours, palette, store, g, t, memory);
     let sums = g.sums.tallied(t.moment.opens, t.shows, dots);
-    let next = output::next_of(r, g, t, sums);
-    let refused = output::is_refused(r, g, t, memory);
+    let next = output::next_of(n, g, t, sums);
+    let refused = output::is_refused(n, g, t, memory);
     if refused {
         return Ticked {
             refusal: 20,
@@ -93,7 +104,7 @@ fn running_tick(r: Registers, g: Generator, memory: &[u8]) -> Ticked
             next: g,
         };
     }
-    let signals = output::signals_of(r, g, t, dots);
+    let signals = output::signals_of(n, g, t, dots);
     Ticked {
         refusal: 0,
         signals,
@@ -101,18 +112,38 @@ fn running_tick(r: Registers, g: Generator, memory: &[u8]) -> Ticked
     }
 }
 
-// One tick by value: its refusal or 0, what it puts out, and the generator after it.
-pub fn tick(r: Registers, g: Generator, memory: &[u8]) -> Ticked
-    requires { ⌜ Sound r g ⌝ }
-    ensures ticked { λ n. ⌜ n ≡ tickOf r (now (memory .entry)) g ⌝ }
+// One tick: its refusal or 0, what it puts out, and the generator after it. The registers stand outside: a run of ticks moves the generator alone.
+pub fn tick_with(
+    n: Numbers,
+    colours: &[u32; 3],
+    palette: &[u32; 256],
+    store: &[u16; 512],
+    g: Generator,
+    memory: &[u8],
+) -> Ticked
+    requires { ⌜ Sound (fileOf n (now colours) (now palette) (now store)) g ⌝ }
+    ensures ticked { λ t. ⌜
+        t ≡ tickOf (fileOf n (now (colours .entry)) (now (palette .entry)) (now (store .entry))) (now (memory .entry)) g ⌝ }
 {
-    let runs = control::is_running(r.control);
+    let runs = control::is_running(n.control);
     if runs {
-        return running_tick(r, g, memory);
+        return running_tick(n, colours, palette, store, g, memory);
     }
     Ticked {
         refusal: 23,
         signals: signals::silence(),
         next: g,
     }
+}
+
+// The same of registers by value.
+pub fn tick(r: Registers, g: Generator, memory: &[u8]) -> Ticked
+    requires { ⌜ Sound r g ⌝ }
+    ensures ticked { λ t. ⌜ t ≡ tickOf r (now (memory .entry)) g ⌝ }
+{
+    let colours = r.colours;
+    let palette = r.palette;
+    let store = r.store;
+    let n = r.numbers();
+    tick_with(n, &colours, &palette, &store, g, memory)
 }

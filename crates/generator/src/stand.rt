@@ -4,6 +4,7 @@ ghost use mathlib.Core.Bool.{cond};
 ghost use Prim.Native.Nat.{_+_, _*_, _/_, _%_, _^_, _≤_, _<_};
 ghost use Rattle.base.specs.Sum.{rolled};
 ghost use Rattle.control.specs.Control.{transferring};
+ghost use Rattle.registers.specs.File.{bare};
 ghost use Rattle.units.specs.Parameters.{displayFrom, halvesToVDisplay};
 ghost use Rattle.screen.specs.Limits.{Bounded};
 ghost use Rattle.screen.specs.Totals.{frameVisible};
@@ -14,7 +15,7 @@ ghost use Rattle.generator.specs.Sound.{InFrame};
 ghost use Rattle.generator.specs.Stand.{Runs, Stands};
 use crate::Generator;
 use lines::Moment;
-use registers::Registers;
+use registers::Numbers;
 use request::Known;
 use units::Screen;
 
@@ -39,14 +40,14 @@ fn held_of(taken: u32, steps: bool, increment: u32) -> u32
     base::first(steps, next, taken)
 }
 
-// The place of a tick's first pixel.
-fn place_of(held: u32, divisor: u32, row: u64, seen: u64) -> u64
-    requires { ⌜ (0 < divisor) × (0 < row) × (row ≤ 2 ^ 26) ⌝ }
-    ensures place { λ p. ⌜ p ≡ (held / divisor * row + seen % row) * 4 + 0 ⌝ }
+// The place of a tick's first pixel, `rest` ticks into its row; its row's number is the address over a power of two.
+fn place_of(held: u32, power: u32, row: u64, rest: u64) -> u64
+    requires { ⌜ (power < 32) × (rest < row) × (row ≤ 2 ^ 26) ⌝ }
+    ensures place { λ p. ⌜ p ≡ (held / 2 ^ power * row + rest) * 4 + 0 ⌝ }
     ensures bound { λ p. ⌜ p < 2 ^ 60 ⌝ }
 {
-    let number = (held / divisor) as u64;
-    (number * row + seen % row) * 4
+    let number = (held >> power) as u64;
+    (number * row + rest) * 4
 }
 
 // The number of the frame's first visible tick: VDisplay's first Display tick.
@@ -73,11 +74,14 @@ fn is_request(control: u32, g: Generator, s: Screen, visible: bool, asks: bool) 
           asked = g .asked;
         }) ⌝ }
 {
+    let on = control::is_transferring(control);
+    if visible {
+        return on & asks;
+    }
     let number = g.half.0 * (s.linetime.0 / 2) + g.at.0;
     let reach = number + s.transferdelay.0;
     let all = s.display.0 * units::displayed_lines(s);
     let first = first_visible(s);
-    let on = control::is_transferring(control);
     request::is_requested(Known {
         on,
         visible,
@@ -90,29 +94,30 @@ fn is_request(control: u32, g: Generator, s: Screen, visible: bool, asks: bool) 
 }
 
 // Where the next tick of a running generator stands.
-pub fn stand_of(r: Registers, g: Generator) -> Stand
-    requires { ⌜ Runs r g ⌝ }
-    ensures stands { λ t. ⌜ Stands r g t ⌝ }
+pub fn stand_of(n: Numbers, g: Generator) -> Stand
+    requires { ⌜ Runs (bare n) g ⌝ }
+    ensures stands { λ t. ⌜ Stands (bare n) g t ⌝ }
 {
-    let params = r.params;
+    let params = n.params;
     let half = g.half.0;
     let at = g.at.0;
     let seen = g.seen.0;
     let s = units::screen_of(params);
     let row = s.meminit.0 + s.transferdelay.0;
-    let plain = control::is_plain(r.control);
+    let rest = seen % row;
+    let plain = control::is_plain(n.control);
     let moment = lines::moment_of(params, plain, half as u32, at as u32);
-    let transfer = moment.visible & (seen % row == 0);
-    let increment = control::address_increment(r.control);
-    let top = crate::top_used(r);
+    let transfer = moment.visible & (rest == 0);
+    let increment = control::address_increment(n.control);
+    let top = crate::top_used(n);
     let taken = base::first(moment.opens, top, g.held);
     let held = held_of(taken, transfer & (0 < seen), increment);
-    let blank = control::is_forced_blank(r.control);
-    let divisor = crate::row_divisor(r);
-    let place = place_of(held, divisor, row, seen);
-    let on = control::is_transferring(r.control);
-    let asking = request::is_asking(on, s.meminit.0, seen % row);
-    let request = is_request(r.control, g, s, moment.visible, asking);
+    let blank = control::is_forced_blank(n.control);
+    let power = crate::row_power(n);
+    let place = place_of(held, power, row, rest);
+    let on = control::is_transferring(n.control);
+    let asking = request::is_asking(on, s.meminit.0, rest);
+    let request = is_request(n.control, g, s, moment.visible, asking);
     Stand {
         screen: s,
         moment,

@@ -1,5 +1,5 @@
 -- What the code finds of a place is its moment, and a screen that was read from registers has counts of 32 bits. Assumes nothing.
-use Prim.Native.Nat.{ℕ, _+_, _%_, _^_, _<_}
+use Prim.Native.Nat.{ℕ, _+_, _-_, _/_, _%_, _^_, _<_}
 use mathlib.Core.Bool.{Bool, true, false, cond, _&&_}
 use mathlib.Core.List.{List}
 use mathlib.Core.Path.{_≡_, refl}
@@ -11,7 +11,7 @@ use lib.Dec.{ltb, leb, eqb}
 use lib.ListN.{getD}
 use Rattle.units.specs.Parameters.{screenOf, halfTicks, displayFrom, halvesToVBlank, halvesToVDisplay, halvesInFrame}
 use Rattle.units.specs.declared.Screen.{Screen}
-use Rattle.lines.specs.Lines.{period, isVSync, isVDisplay, lineFrom, secondHalf, inLine, visible, lowIn, opens, closes, nextHalf, nextAt, momentOf}
+use Rattle.lines.specs.Lines.{period, isVSync, isVDisplay, lineFrom, lineOf, secondHalf, inLine, visible, columnOf, linesAbove, lowIn, opens, closes, nextHalf, nextAt, momentOf}
 use Rattle.lines.specs.declared.Period.{Period}
 use Rattle.lines.specs.declared.Period.the-variants.{PreEqualise, VSync, PostEqualise, VBlank, VDisplay}
 
@@ -61,7 +61,7 @@ module _ (s : Screen) (half : ℕ) where
       go false e false false true = simp (le-leb (s .vpreequalise .0) half (ltb-false _ _ e))
       go false e false false false = simp (le-leb (s .vpreequalise .0) half (ltb-false _ _ e))
 
-  in-vdisplay : leb (halvesToVDisplay s) half ≡ isVDisplay (period s half)
+  pub in-vdisplay : leb (halvesToVDisplay s) half ≡ isVDisplay (period s half)
   unfolding period
   in-vdisplay = go (ltb half (s .vpreequalise .0)) refl (ltb half (s .vpreequalise .0 + s .vsync .0)) refl (ltb half (halvesToVBlank s)) refl (ltb half (halvesToVDisplay s)) refl
     where
@@ -76,6 +76,8 @@ module _ (s : Screen) (half : ℕ) where
 module _ (s : Screen) (plain : Bool) (half at : ℕ)
     (from : ℕ) (from-is : from ≡ lineFrom s)
     (tick : ℕ) (tick-is : tick ≡ cond (eqb ((half + from) % 2) 1) (halfTicks s + at) at)
+    (line : ℕ) (line-is : line ≡ (half + from) / 2 - (halvesToVDisplay s + from) / 2)
+    (column : ℕ) (column-is : column ≡ tick - displayFrom s)
     (p : Period)
     (period-is : p ≡ cond (ltb half (s .vpreequalise .0)) PreEqualise (cond (ltb half (s .vpreequalise .0 + s .vsync .0)) VSync (cond (ltb half (halvesToVBlank s)) PostEqualise (cond (ltb half (halvesToVDisplay s)) VBlank VDisplay))))
     (next : ℕ) (next-is : next ≡ cond (ltb (half + 1) (halvesInFrame s)) (half + 1) 0)
@@ -88,8 +90,10 @@ module _ (s : Screen) (plain : Bool) (half at : ℕ)
     low = low;
     opens = eqb half (halvesToVDisplay s) && eqb at 0;
     closes = leb (halvesInFrame s) (half + 1) && leb (halfTicks s) (at + 1);
+    column = column;
+    line = line;
     half = later;
     at = after;
   } ≡ momentOf (screenOf params) plain half at
-  unfolding period secondHalf inLine visible opens closes nextHalf nextAt momentOf
-  moment-by params e = rw (after-is, later-is, low-is, next-is, in-vsync s half, in-vdisplay s half, period-is, tick-is, from-is, e)
+  unfolding period lineOf secondHalf inLine visible columnOf linesAbove opens closes nextHalf nextAt momentOf
+  moment-by params e = rw (after-is, later-is, low-is, next-is, in-vsync s half, in-vdisplay s half, period-is, column-is, line-is, tick-is, from-is, e)

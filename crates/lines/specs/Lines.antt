@@ -62,6 +62,14 @@ visible s half at = isVDisplay (period s half) && inDisplay s (inLine s half at)
 unfoldable pub lead : Screen → ℕ
 lead s = min (s .display .0) (inLine s (halvesToVDisplay s) 0 - displayFrom s)
 
+-- the Display ticks of its line that lie before a tick: at a visible tick its column, in ticks
+unfoldable pub columnOf : Screen → ℕ → ℕ → ℕ
+columnOf s half at = inLine s half at - displayFrom s
+
+-- the full lines that lie between VDisplay's first line and a half line's: at a visible tick the lines above it
+unfoldable pub linesAbove : Screen → ℕ → ℕ
+linesAbove s half = lineOf s half - lineOf s (halvesToVDisplay s)
+
 -- sync is low, by the period; at: the tick's number in a cycle of half a line, tick: in the full line
 abbrev pub lowIn : Bool → ℕ → ℕ → Period → ℕ → ℕ → Bool
 lowIn plain halfsync broadpulse PreEqualise at tick = not plain && ltb at halfsync
@@ -96,7 +104,7 @@ tickNumber s half at = half * halfTicks s + at
 unfoldable pub visibleBefore : Screen → ℕ → ℕ
 visibleBefore s n = count (λ k. visible s (k / halfTicks s) (k % halfTicks s)) n
 
--- the moment of a place, all in one: a low sync, and the place one tick on
+-- the moment of a place, all in one: a low sync, the column and the line of a visible tick, and the place one tick on
 unfoldable pub momentOf : Screen → Bool → ℕ → ℕ → Moment
 momentOf s plain half at =
     record {
@@ -106,6 +114,8 @@ momentOf s plain half at =
       low = syncLow s plain half at;
       opens = opens s half at;
       closes = closes s half at;
+      column = columnOf s half at;
+      line = linesAbove s half;
       half = nextHalf s half at;
       at = nextAt s at;
     }

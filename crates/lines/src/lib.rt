@@ -1,10 +1,10 @@
 // Where a tick stands (01, "Lines and frames"): its period, its line, its sync, and the tick after it.
 ghost use mathlib.Core.Path.{_≡_};
 ghost use mathlib.Core.Bool.{cond};
-ghost use Prim.Native.Nat.{_<_};
+ghost use Prim.Native.Nat.{_-_, _<_};
 ghost use lib.Dec.{ltb};
 ghost use Rattle.units.specs.Parameters.{screenOf};
-ghost use Rattle.lines.specs.Lines.{lowIn, momentOf};
+ghost use Rattle.lines.specs.Lines.{period, isVDisplay, lowIn, momentOf};
 ghost use Rattle.lines.specs.declared.Period.the-variants.{PreEqualise, VSync, PostEqualise, VBlank, VDisplay};
 
 // The five periods, in frame order.
@@ -17,7 +17,7 @@ pub enum Period {
 }
 
 // What a place in the frame says of its tick: it lies in VSync, in VDisplay; it is visible; sync is low; it is the first tick of VDisplay, or
-// the frame's last. And the place after it: its half line and its number there.
+// the frame's last. Its column and its line, as a visible tick has them. And the place after it: its half line and its number there.
 pub struct Moment {
     pub vsyncing: bool,
     pub vdisplaying: bool,
@@ -25,8 +25,17 @@ pub struct Moment {
     pub low: bool,
     pub opens: bool,
     pub closes: bool,
+    pub column: u64,
+    pub line: u64,
     pub half: u64,
     pub at: u64,
+}
+
+// What a count is past another, and 0 up to it.
+fn past(count: u64, from: u64) -> u64
+    ensures difference { λ r. ⌜ r ≡ count - from ⌝ }
+{
+    if count < from { 0 } else { count - from }
 }
 
 fn in_period(test: bool, period: Period, later: Period) -> Period
@@ -59,6 +68,15 @@ fn is_low(plain: bool, period: Period, at: u64, tick: u64, halfsync: u64, broadp
     }
 }
 
+// A half line lies in VDisplay.
+pub fn is_vdisplay(params: [u32; 14], half: u32) -> bool
+    ensures test { λ b. ⌜ b ≡ isVDisplay (period (screenOf params) half) ⌝ }
+{
+    let s = units::screen_of(params);
+    let blank = s.vpreequalise.0 + s.vsync.0 + s.vpostequalise.0 + s.vblank.0;
+    blank <= half as u64
+}
+
 // The moment of a place: half is the half line's number in the frame, at the tick's in the half line. Any numbers: none can overflow.
 pub fn moment_of(params: [u32; 14], plain: bool, half: u32, at: u32) -> Moment
     ensures moment { λ m. ⌜ m ≡ momentOf (screenOf params) plain half at ⌝ }
@@ -78,6 +96,9 @@ pub fn moment_of(params: [u32; 14], plain: bool, half: u32, at: u32) -> Moment
     let line_from = post;
     let second = (number + line_from) % 2 == 1;
     let tick = base::choose(second, line + place, place);
+    let first = (blank + line_from) / 2;
+    let below = past((number + line_from) / 2, first);
+    let column = past(tick, from);
     let period = period_of(number, pre, sync, post, blank);
     let vdisplaying = blank <= number;
     let later = number + 1;
@@ -91,6 +112,8 @@ pub fn moment_of(params: [u32; 14], plain: bool, half: u32, at: u32) -> Moment
         low: is_low(plain, period, place, tick, s.halfsync.0, s.broadpulse.0),
         opens: (number == blank) & (place == 0),
         closes: (frame <= later) & (line <= after),
+        column,
+        line: below,
         half: base::choose(stays, number, next),
         at: base::choose(stays, after, 0),
     }

@@ -44,8 +44,8 @@ fn read_refusal(m: Machine, p: Place) -> u32
     let regs = m.regs;
     let generator = m.generator;
     let busy = map::is_parameter(p) & control::is_running(regs.control);
-    let shown = map::is_checksum(p) & generator::is_displaying(regs, generator);
-    let n5 = base::first(shown, 5, 0);
+    let summing = map::is_checksum(p) & generator::is_displaying(regs, generator);
+    let n5 = base::first(summing, 5, 0);
     let n3 = base::first(busy, 3, n5);
     base::first(map::is_reserved(p), 2, n3)
 }

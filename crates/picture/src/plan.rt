@@ -38,8 +38,9 @@ pub fn plan_of(r: Registers) -> Plan
     let display = s.display.0;
     let lines = units::displayed_lines(s);
     let increment = control::address_increment(r.control);
-    let top = generator::top_used(r);
-    let divisor = generator::row_divisor(r);
+    let n = r.numbers();
+    let top = generator::top_used(n);
+    let power = generator::row_power(n);
     Plan {
         display,
         lines,
@@ -48,7 +49,7 @@ pub fn plan_of(r: Registers) -> Plan
         row: s.meminit.0 + s.transferdelay.0,
         top: top as u64,
         increment: increment as u64,
-        divisor: divisor as u64,
+        divisor: 1u64 << power,
         control: r.control,
         position: r.position,
     }

@@ -1,13 +1,25 @@
--- What callers know of the sums. Assumes nothing.
-use mathlib.Core.Bool.{Bool, true, false, cond}
-use mathlib.Core.Path.{_≡_, refl, _∙_}
+-- What callers know of a pixel and of the sums. Assumes nothing.
+use Prim.Native.Nat.{ℕ, _+_}
+use mathlib.Core.Bool.{Bool, true, false}
+use mathlib.Core.Path.{_≡_, refl}
 use mathlib.Core.List.{List, [], _∷_, _++_}
 use native.Mathlib.Omega.{arith}
 use lib.ListN.{length, getD}
+use Rattle.base.specs.Sum.{rolled}
+use Rattle.base.specs.Channels.{red, green, blue}
+use Rattle.cursor.specs.Cursor.{codeOver}
+use Rattle.registers.specs.File.{numbersOf}
+use Rattle.registers.specs.declared.Registers.{Registers}
 use Rattle.signals.specs.Signals.{black}
+use Rattle.pixel.specs.Dot.{dotBelow, dotAt}
 use Rattle.pixel.specs.Sums.{none, added, summed, clearedAt, summedWhere, Below24}
 use Rattle.signals.specs.declared.Dot.{Dot}
 use Rattle.pixel.specs.declared.Sums.{Sums}
+
+-- a pixel that no code of the cursor covers
+pub dot-uncovered : (r : Registers) (position : ℕ) (memory : List ℕ) (place x y : ℕ) → codeOver (r .control) position (r .store) x y ≡ 0 → dotBelow (numbersOf r) (r .palette) memory place ≡ dotAt r position memory place x y
+unfolding dotAt
+dot-uncovered r position memory place x y e = rw e
 
 -- the sums of two lists of dots, one after the other
 pub summed-join : (s : Sums) (a b : List Dot) → summed s (a ++ b) ≡ summed (summed s a) b
@@ -25,11 +37,19 @@ four-summed (a ∷ b ∷ c ∷ []) e s = absurd (omega arith)
 four-summed (a ∷ b ∷ c ∷ d ∷ []) e s = refl
 four-summed (a ∷ b ∷ c ∷ d ∷ x ∷ rest) e s = absurd (omega arith)
 
--- the sums after a tick, from what its parts answer
-pub after-by : (s : Sums) (opens shows : Bool) (four : List Dot) → length four ≡ 4 → (n b a₁ a₂ a₃ a₄ out : Sums) → n ≡ none → b ≡ cond opens n s →
-    a₁ ≡ added b (getD four 0 black) → a₂ ≡ added a₁ (getD four 1 black) → a₃ ≡ added a₂ (getD four 2 black) → a₄ ≡ added a₃ (getD four 3 black) →
-    out ≡ cond shows a₄ b → out ≡ summedWhere shows (clearedAt opens s) four
-after-by s opens shows four e n b a₁ a₂ a₃ a₄ out en eb e₁ e₂ e₃ e₄ eo = eo ∙ rw (e₄, e₃, e₂, e₁, four-summed four e b, eb, en)
+-- a sum with four numbers, one after the other
+abbrev pub fourth : ℕ → (ℕ → ℕ) → ℕ
+fourth sum byte = rolled (rolled (rolled (rolled sum (byte 0)) (byte 1)) (byte 2)) (byte 3)
+
+-- four bytes added at once roll over as if one by one
+pub four-rolled : (sum a b c d : ℕ) → rolled sum (a + b + c + d) ≡ rolled (rolled (rolled (rolled sum a) b) c) d
+four-rolled sum a b c d = omega arith
+
+-- the sums with four dots, each from its own bytes
+pub four-by : (s : Sums) (l : List Dot) → length l ≡ 4 → (r g b : ℕ) →
+    r ≡ fourth (s .red) (λ k. red (getD l k black .colour)) → g ≡ fourth (s .green) (λ k. green (getD l k black .colour)) → b ≡ fourth (s .blue) (λ k. blue (getD l k black .colour)) →
+    record { red = r; green = g; blue = b } ≡ summed s l
+four-by s l e r g b er eg eb = rw (er, eg, eb) (four-summed l e s)
 
 -- what is summed stays below 2^24
 pub none-below : Below24 none

@@ -1,9 +1,12 @@
 // One pixel (01, "Rows and pixels"): from picture memory through mask, palette and cursor to the colour put out, and its checksums.
 ghost use mathlib.Core.Path.{_≡_};
 ghost use mathlib.Core.Bool.{cond};
-ghost use Rattle.pixel.specs.Dot.{dotAt};
-ghost use Rattle.pixel.specs.Sums.{none, added, clearedAt, summedWhere};
+ghost use Rattle.registers.specs.File.{fileOf};
+ghost use Rattle.pixel.specs.Dot.{dotBelow, dotAt};
+ghost use Rattle.base.specs.Sum.{rolled};
+ghost use Rattle.pixel.specs.Sums.{none, added, summed, clearedAt, summedWhere};
 use base::channels;
+use registers::Numbers;
 use signals::Dot;
 
 // The three 24-bit sums of colour bytes.
@@ -13,26 +16,42 @@ pub struct Sums {
     pub blue: u32,
 }
 
-// Pixel x of line y, which stands at a place of the picture memory, under a cursor at a position.
-pub fn dot_at(
-    r: registers::Registers,
-    position: u32,
-    memory: &[u8],
-    place: u64,
-    x: u32,
-    y: u32,
-) -> Dot
-    ensures dot { λ d. ⌜ d ≡ dotAt r position (now (memory .entry)) place x y ⌝ }
+// Where a pixel stands: its place in the picture memory, its column and its line.
+pub struct Spot {
+    pub place: u64,
+    pub x: u32,
+    pub y: u32,
+}
+
+// A pixel at a place, with no cursor over it.
+pub fn dot_below(n: Numbers, palette: &[u32; 256], memory: &[u8], place: u64) -> Dot
+    ensures dot { λ d. ⌜ d ≡ dotBelow n (now (palette .entry)) (now (memory .entry)) place ⌝ }
 {
-    let palette = r.palette;
-    let store = r.store;
-    let colours = r.colours;
-    let pixel = memory::pixel_shown(r.control, memory, place);
-    let below = colour::masked_colour(&palette, r.mask, pixel);
-    let on = control::is_cursor_on(r.control);
-    let code = base::first(on, cursor::cursor_code(&store, position, x, y), 0);
+    let pixel = memory::pixel_shown(n.control, memory, place);
     Dot {
-        colour: cursor::cover(&colours, code, below),
+        colour: colour::masked_colour(palette, n.mask, pixel),
+    }
+}
+
+// A pixel at its spot, under a cursor at a position.
+pub fn dot_at(
+    n: Numbers,
+    position: u32,
+    colours: &[u32; 3],
+    palette: &[u32; 256],
+    store: &[u16; 512],
+    memory: &[u8],
+    at: Spot,
+) -> Dot
+    ensures dot { λ d. ⌜
+        d ≡ dotAt (fileOf n (now (colours .entry)) (now (palette .entry)) (now (store .entry)))
+        position (now (memory .entry)) (at .place) (at .x) (at .y) ⌝ }
+{
+    let below = dot_below(n, palette, memory, at.place);
+    let on = control::is_cursor_on(n.control);
+    let code = base::first(on, cursor::cursor_code(store, position, at.x, at.y), 0);
+    Dot {
+        colour: cursor::cover(colours, code, below.colour),
     }
 }
 
@@ -40,6 +59,16 @@ fn chosen(test: bool, sums: Sums, other: Sums) -> Sums
     ensures chosen { λ r. ⌜ r ≡ cond test sums other ⌝ }
 {
     if test { sums } else { other }
+}
+
+// A sum with four bytes added at once: it rolls over as if one by one.
+fn four_more(sum: u32, a: u8, b: u8, c: u8, d: u8) -> u32
+    ensures sum { λ r. ⌜ r ≡ rolled (rolled (rolled (rolled sum a) b) c) d ⌝ }
+{
+    base::rolled_sum(
+        sum,
+        base::wide(a) + base::wide(b) + base::wide(c) + base::wide(d),
+    )
 }
 
 impl Sums {
@@ -67,16 +96,48 @@ impl Sums {
             blue: base::rolled_sum(self.blue, blue),
         }
     }
+
+    // Four dots added.
+    fn with_four(self, four: [Dot; 4]) -> Sums
+        ensures sums { λ r. ⌜ r ≡ summed self four ⌝ }
+    {
+        let a = four[0];
+        let b = four[1];
+        let c = four[2];
+        let d = four[3];
+        Sums {
+            red: four_more(
+                self.red,
+                channels::red_byte(a.colour),
+                channels::red_byte(b.colour),
+                channels::red_byte(c.colour),
+                channels::red_byte(d.colour),
+            ),
+            green: four_more(
+                self.green,
+                channels::green_byte(a.colour),
+                channels::green_byte(b.colour),
+                channels::green_byte(c.colour),
+                channels::green_byte(d.colour),
+            ),
+            blue: four_more(
+                self.blue,
+                channels::blue_byte(a.colour),
+                channels::blue_byte(b.colour),
+                channels::blue_byte(c.colour),
+                channels::blue_byte(d.colour),
+            ),
+        }
+    }
+
     // The sums after a tick: cleared where it opens VDisplay, and its four pixels added where it shows them.
     pub fn tallied(self, opens: bool, shows: bool, four: [Dot; 4]) -> Sums
         ensures sums { λ r. ⌜ r ≡ summedWhere shows (clearedAt opens self) four ⌝ }
     {
         let before = chosen(opens, Sums::none(), self);
-        let sums = before
-            .added(four[0])
-            .added(four[1])
-            .added(four[2])
-            .added(four[3]);
-        chosen(shows, sums, before)
+        if shows {
+            return before.with_four(four);
+        }
+        before
     }
 }

@@ -6,6 +6,7 @@ use mathlib.Core.List.{List, [], _∷_}
 use lib.ListN.{length, getD, set, replicate}
 use Rattle.registers.specs.declared.map.Place.{Place}
 use Rattle.registers.specs.declared.Registers.{Registers}
+use Rattle.registers.specs.declared.Numbers.{Numbers}
 use Rattle.registers.specs.Map.{rowOf, numberInRow, isStore}
 
 -- all registers begin at 0
@@ -21,6 +22,27 @@ zeros =
       palette = replicate 256 0;
       store = replicate 512 0;
     }
+
+-- the registers that a tick asks for a number
+abbrev pub numbersOf : Registers → Numbers
+numbersOf r = record { params = r .params; mask = r .mask; control = r .control; top = r .top; position = r .position }
+
+-- the file that has these numbers, cursor colours, palette and cursor store; and one of these numbers alone
+abbrev pub fileOf : Numbers → List ℕ → List ℕ → List ℕ → Registers
+fileOf n colours palette store =
+    record {
+      params = n .params;
+      mask = n .mask;
+      control = n .control;
+      top = n .top;
+      colours = colours;
+      position = n .position;
+      palette = palette;
+      store = store;
+    }
+
+abbrev pub bare : Numbers → Registers
+bare n = fileOf n [] [] []
 
 -- the file as the rows of the map; a checksum does not stand in it
 abbrev pub rows : Registers → List (List ℕ)

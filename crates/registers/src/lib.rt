@@ -2,7 +2,7 @@
 pub mod map;
 
 ghost use mathlib.Core.Path.{_≡_};
-ghost use Rattle.registers.specs.File.{zeros, valueIn, storeIn};
+ghost use Rattle.registers.specs.File.{zeros, numbersOf, valueIn, storeIn};
 ghost use Rattle.registers.specs.declared.map.Place.the-variants.{Parameter, Colour, Palette, Store};
 use crate::map::Place;
 
@@ -15,6 +15,15 @@ pub struct Registers {
     pub position: u32,
     pub palette: [u32; 256],
     pub store: [u16; 512],
+}
+
+// What a tick asks of them for a number: all but the cursor colours, the palette and the cursor store.
+pub struct Numbers {
+    pub params: [u32; 14],
+    pub mask: u32,
+    pub control: u32,
+    pub top: u32,
+    pub position: u32,
 }
 
 impl Registers {
@@ -31,6 +40,20 @@ impl Registers {
             position: 0,
             palette: [0; 256],
             store: [0; 512],
+        }
+    }
+
+    // Those that are asked for a number.
+    pub fn numbers(self) -> Numbers
+        ensures numbers { λ n. ⌜ n ≡ numbersOf self ⌝ }
+    {
+        let params = self.params;
+        Numbers {
+            params,
+            mask: self.mask,
+            control: self.control,
+            top: self.top,
+            position: self.position,
         }
     }
 

@@ -1,2 +1,3 @@
--- What the measured call answers.
+-- What the measured calls answer.
 pub mod Speed
+pub mod Ticks

@@ -1,13 +1,12 @@
 -- `generator::is_displaying` meets its contract: the period of a running generator's next tick.
 use Prim.Native.Nat.{_<_, _^_}
 use mathlib.Core.Bool.{Bool, true}
-use mathlib.Core.Path.{_≡_, sym, ap, _∙_}
+use mathlib.Core.Path.{_≡_, sym, _∙_}
 use native.Mathlib.Omega.{arith}
 use Rattle.control.specs.Control.{running}
 use Rattle.screen.proofs.limits.Laws.{narrow}
 use Rattle.registers.specs.declared.Registers.{Registers}
-use Rattle.lines.specs.Lines.{momentOf}
-use Rattle.lines.specs.declared.Moment.{Moment}
+use Rattle.lines.specs.Lines.{period, isVDisplay}
 use Rattle.generator.specs.Sound.{Sound}
 use Rattle.generator.specs.Rows.{screen}
 use Rattle.generator.specs.Counters.{displaying}
@@ -21,9 +20,9 @@ half-in r g k on =
     let b = narrow (screen r) (k .accepted on .bounded) in
     omega (arith, k .placed on .half-in, b .vpreequalise .high, b .vsync .high, b .vpostequalise .high, b .vblank .high, b .vdisplay .high)
 
-lit : (r : Registers) (g : Generator) (m : Moment) → running (r .control) ≡ true → m ≡ momentOf (screen r) Bool.false (g .half .0) 0 → m .vdisplaying ≡ displaying r g
-unfolding displaying momentOf
-lit r g m on e = rw on (ap (λ (x : Moment). x .vdisplaying) e)
+lit : (r : Registers) (g : Generator) (b : Bool) → running (r .control) ≡ true → b ≡ isVDisplay (period (screen r) (g .half .0)) → b ≡ displaying r g
+unfolding displaying
+lit r g b on e = rw on e
 
 dark : (r : Registers) (g : Generator) → running (r .control) ≡ Bool.false → Bool.false ≡ displaying r g
 unfolding displaying
@@ -42,5 +41,5 @@ is-displaying-spec =
     (λ c.
     let run = c .before .before .before in
     let start = run .before .before in
-    lit (start .args .r) (start .args .g) _ (sym (run .is-running .ensures) ∙ c .before .before .if1 .taken) (c .moment-of .ensures))
+    lit (start .args .r) (start .args .g) _ (sym (run .is-running .ensures) ∙ c .before .before .if1 .taken) (c .is-vdisplay .ensures))
     (λ c. dark _ _ (sym (c .before .is-running .ensures) ∙ c .if1 .left)))

@@ -1,33 +1,38 @@
 -- `generator::running_tick` meets its contract: 20 or the four parts of an accepted tick.
-use mathlib.Core.Path.{sym, ap, _∙_}
-use borrow.Author.Needs.{needs}
+use mathlib.Core.Path.{_≡_, sym, ap, _∙_}
+use Rattle.registers.specs.File.{fileOf}
+use Rattle.registers.specs.declared.Registers.{Registers}
 use Rattle.generator.specs.Tick.{signalsWith}
+use Rattle.generator.proofs.Bare.{stands-whole, refuses-bare, step-bare, signals-bare}
 use Rattle.generator.proofs.Puts.{sums-by, tick-20, tick-0}
 use Rattle.generator.proofs.running_tick.Statement.{statement}
 use Rattle.generator.proofs.running_tick.Tie as tie
+
+abbrev r : tie.Start → Registers
+r start = fileOf (start .args .n) (start .args .colours .now) (start .args .palette .now) (start .args .store .now)
 
 pub running-tick-spec : {M : Type 1} → statement M
 running-tick-spec =
     tie.close
     (tie.spec
-    (λ c κs. search needs)
-    (λ c κs. search needs)
+    (λ c κs. c .before .pre)
+    (λ c κs. (c .before .before .pre, c .stand-of .ensures))
     (λ c κs. tt)
-    (λ c κs. search needs)
-    (λ c κs. search needs)
+    (λ c κs. (c .before .before .before .before .pre, c .before .before .stand-of .ensures))
+    (λ c κs. c .before .before .before .stand-of .ensures)
     (λ c κs. tt)
     (λ c.
     let start = c .before .before .before .before .before .before .before .before in
-    tick-20 (start .args .r) (start .args .g) (start .args .memory .now) (start .pre .runs) _ (c .silence .ensures)
-    (sym (c .before .before .is-refused .ensures) ∙ c .before .if1 .taken))
-    (λ c κs. search needs)
+    tick-20 (r start) (start .args .g) (start .args .memory .now) (start .pre .runs) _ (c .silence .ensures)
+    (sym (refuses-bare (r start) (start .args .g) (start .args .memory .now)) ∙ sym (c .before .before .is-refused .ensures) ∙ c .before .if1 .taken))
+    (λ c κs. c .before .before .before .before .before .stand-of .ensures)
     (λ c.
     let next = c .before .before .before in
     let dots = next .before .before in
     let stand = dots .before in
     let start = stand .before .before in
-    tick-0 (start .args .r) (start .args .g) (start .args .memory .now) (start .pre .runs)
-    (sym (c .before .before .is-refused .ensures) ∙ c .before .if1 .left) _ _ _
-    (c .signals-of .ensures ∙ ap (signalsWith (start .args .r) (start .args .g)) (dots .dots-of .ensures))
-    (sums-by (start .args .r) (start .args .memory .now) (start .args .g) _ (stand .stand-of .ensures) _ (dots .dots-of .ensures) _ (next .before .tallied .ensures))
-    (next .next-of .ensures)))
+    tick-0 (r start) (start .args .g) (start .args .memory .now) (start .pre .runs)
+    (sym (refuses-bare (r start) (start .args .g) (start .args .memory .now)) ∙ sym (c .before .before .is-refused .ensures) ∙ c .before .if1 .left) _ _ _
+    (c .signals-of .ensures ∙ signals-bare (r start) (start .args .g) _ ∙ ap (signalsWith (r start) (start .args .g)) (dots .dots-of .ensures))
+    (sums-by (r start) (start .args .memory .now) (start .args .g) _ (stands-whole (r start) (start .args .g) _ (stand .stand-of .ensures)) _ (dots .dots-of .ensures) _ (next .before .tallied .ensures))
+    (next .next-of .ensures ∙ step-bare (r start) (start .args .g) _)))

@@ -49,8 +49,8 @@ module _ (r : Registers) (g : Generator) (s : Screen) (es : s ≡ screen r) (n :
     (et : t ≡ cond (n .opens) top (g .held))
     (eh : h ≡ cond ((n .visible && eqb (g .seen .0 % rowLength s) 0) && ltb 0 (g .seen .0)) (rolled t i) t)
     (eb : b ≡ forcedBlank (r .control))
-    (ed : d ≡ rowDivisor r)
-    (ep : p ≡ (h / d * rowLength s + g .seen .0 % rowLength s) * 4 + 0)
+    (ed : 2 ^ d ≡ rowDivisor r)
+    (ep : p ≡ (h / 2 ^ d * rowLength s + g .seen .0 % rowLength s) * 4 + 0)
     (eo : on ≡ transferring (r .control))
     (ea : a ≡ asking on (s .meminit .0) (g .seen .0 % rowLength s))
     (eq : q ≡ requested (known (transferring (r .control)) (tickNumber s (g .half .0) (g .at .0)) g s (n .visible) a)) where

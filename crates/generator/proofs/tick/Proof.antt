@@ -1,8 +1,9 @@
--- `generator::tick` meets its contract: 23, or the tick of a running generator, which the one condition places.
-use mathlib.Core.Path.{sym, _∙_}
-use borrow.Author.Needs.{needs}
-use Rattle.generator.proofs.stand.Stands.{sound-runs}
-use Rattle.generator.proofs.Puts.{tick-23}
+-- `generator::tick` meets its contract: the registers are their numbers and their three tables.
+use mathlib.Core.Path.{sym, ap, subst, _∙_}
+use Rattle.registers.specs.File.{fileOf}
+use Rattle.registers.specs.declared.Numbers.{Numbers}
+use Rattle.generator.specs.Tick.{tickOf}
+use Rattle.generator.specs.Sound.{Sound}
 use Rattle.generator.proofs.tick.Statement.{statement}
 use Rattle.generator.proofs.tick.Tie as tie
 
@@ -11,9 +12,12 @@ tick-spec =
     tie.close
     (tie.spec
     (λ c κs. tt)
-    (λ c κs. let start = c .before .before .before in sound-runs (start .args .r) (start .args .g) (start .pre) (sym (c .before .is-running .ensures) ∙ c .if1 .taken))
-    (λ c. search needs)
-    (λ c κs. tt)
+    (λ c κs.
+    let made = c .before .before .before in
+    let start = made .before .before .before .before .before in
+    subst (λ (n : Numbers). Sound (fileOf n (start .args .r .colours) (start .args .r .palette) (start .args .r .store)) (start .args .g)) (sym (made .numbers .ensures)) (start .pre))
     (λ c.
-    let start = c .before .before .before .before in
-    tick-23 (start .args .r) (start .args .g) (start .args .memory .now) _ (c .silence .ensures) (sym (c .before .before .is-running .ensures) ∙ c .before .if1 .left)))
+    let made = c .before .before .before .before in
+    let start = made .before .before .before .before .before in
+    c .tick-with .ensures
+    ∙ ap (λ (n : Numbers). tickOf (fileOf n (start .args .r .colours) (start .args .r .palette) (start .args .r .store)) (start .args .memory .now) (start .args .g)) (made .numbers .ensures)))

@@ -31,20 +31,28 @@ moment-of-spec =
     (λ c. let screen = c .before .before .before .before .before .before .before .before in omega (arith, counts screen, screen .before .fits))
     (λ c. let screen = c .before .before .before .before .before .before .before .before in omega (arith, counts screen, screen .before .fits))
     (λ c κs. tt)
+    (λ c. omega (arith, counts (c .before .before .before .before .before .before .before .before .before)))
+    (λ c. let screen = c .before .before .before .before .before .before .before .before .before in omega (arith, counts screen, screen .before .fits))
     (λ c κs. tt)
-    (λ c. let screen = c .before .before .before .before .before .before .before .before .before .before in omega (arith, screen .before .fits))
-    (λ c. let screen = c .before .before .before .before .before .before .before .before .before .before in omega (arith, screen .before .fits))
     (λ c κs. tt)
-    (λ c κs. counts (c .before .before .before .before .before .before .before .before .before .before .before) .halfsync)
+    (λ c κs. tt)
+    (λ c. let screen = c .before .before .before .before .before .before .before .before .before .before .before .before in omega (arith, screen .before .fits))
+    (λ c. let screen = c .before .before .before .before .before .before .before .before .before .before .before .before in omega (arith, screen .before .fits))
+    (λ c κs. tt)
+    (λ c κs. counts (c .before .before .before .before .before .before .before .before .before .before .before .before .before) .halfsync)
     (λ c κs. tt)
     (λ c κs. tt)
     (λ c.
     let low = c .before .before in
     let period = low .before .before in
-    let screen = period .before .before .before .before .before .before .before .before .before .before in
+    let column = period .before in
+    let line = column .before in
+    let screen = line .before .before .before .before .before .before .before .before .before .before in
     moment-by (screen .screen-of .result) (screen .before .args .plain) (screen .before .args .half) (screen .before .args .at)
     _ (line-from (screen .screen-of .result))
-    _ (period .before .choose .ensures)
+    _ (line .before .choose .ensures)
+    _ (line .past .ensures)
+    _ (column .past2 .ensures)
     _ (period .period-of .ensures)
     _ (low .before .choose2 .ensures)
     _ (low .is-low .ensures)

@@ -12,5 +12,4 @@ dot-at-spec =
     (λ c κs. tt)
     (λ c κs. tt)
     (λ c κs. tt)
-    (λ c κs. tt)
     (λ c. search dot-of))

@@ -1,5 +1,6 @@
 -- `generator::output::is_refused` meets its contract: of four places in a row, the last ends beyond the memory where any does.
 use native.Mathlib.Omega.{arith}
+use Rattle.registers.specs.File.{bare}
 use Rattle.generator.proofs.Puts.{refuse-by}
 use Rattle.generator.proofs.output.is_refused.Statement.{statement}
 use Rattle.generator.proofs.output.is_refused.Tie as tie
@@ -13,6 +14,6 @@ is-refused-spec =
     (λ c κs. tt)
     (λ c.
     let start = c .before .before .before .before .before in
-    refuse-by (start .args .r) (start .args .memory .now) (start .args .g) (start .args .t) (start .pre) _ _
+    refuse-by (bare (start .args .n)) (start .args .memory .now) (start .args .g) (start .args .t) (start .pre) _ _
     (c .before .before .ends-beyond .ensures)
     (c .before .is-transferring .ensures)))

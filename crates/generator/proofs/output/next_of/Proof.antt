@@ -1,5 +1,6 @@
 -- `generator::output::next_of` meets its contract: each field by its own call.
 use native.Mathlib.Omega.{arith}
+use Rattle.registers.specs.File.{bare}
 use Rattle.generator.proofs.Puts.{seen-in, next-by}
 use Rattle.generator.proofs.output.next_of.Statement.{statement}
 use Rattle.generator.proofs.output.next_of.Tie as tie
@@ -14,7 +15,7 @@ next-of-spec =
     (λ c κs. tt)
     (λ c.
     let start = c .before .before .before .before in
-    next-by (start .args .r) (start .args .g) (start .args .t) (start .pre .1) (start .args .sums) _ _ _
+    next-by (bare (start .args .n)) (start .args .g) (start .args .t) (start .pre .1) (start .args .sums) _ _ _
     (c .before .before .choose .ensures)
     (c .before .choose2 .ensures)
     (c .level .ensures)))

@@ -1,4 +1,5 @@
 -- `generator::output::signals_of` meets its contract: each signal by its own call, joined by one law.
+use Rattle.registers.specs.File.{bare}
 use Rattle.generator.proofs.Puts.{signals-by}
 use Rattle.generator.proofs.output.signals_of.Statement.{statement}
 use Rattle.generator.proofs.output.signals_of.Tie as tie
@@ -12,6 +13,6 @@ signals-of-spec =
     (λ c.
     let on = c .before .before .before .before .before .before in
     let start = on .before .before in
-    signals-by (start .args .r) (start .args .g) (start .args .t) (start .pre .1) _ _ _
+    signals-by (bare (start .args .n)) (start .args .g) (start .args .t) (start .pre) _ _ _
     (on .is-transferring .ensures)
     (c .first .ensures)))

@@ -1,6 +1,10 @@
 -- `picture::plan::plan_of` meets its contract: the numbers of a frame that may be drawn fit. Assumes nothing.
-use mathlib.Core.Path.{_≡_}
+use Prim.Native.Nat.{ℕ, _*_, _%_, _^_, _<_}
+use mathlib.Core.Path.{_≡_, _∙_}
+use native.Mathlib.Nat.{one-mul}
 use native.Mathlib.Omega.{arith}
+use lib.Pow.{shl-exact}
+use Rattle.generator.proofs.Bare.{top-bare, divisor-bare}
 use Rattle.screen.specs.Limits.{Bounded}
 use Rattle.screen.proofs.limits.Laws.{narrow}
 use Rattle.screen.proofs.totals.Counts.{visible-by}
@@ -13,8 +17,12 @@ use Rattle.picture.proofs.plan.plan_of.Tie as tie
 bounds : (c : tie.After-screen-of) → Bounded 0xFFFFFF (c .screen-of .result)
 bounds c = rw (c .screen-of .ensures) (narrow _ (c .before .before .pre .accepted .bounded))
 
-planned : (c : tie.After-row-divisor) → (p : Plan) → p ≡ planOf (c .before .before .before .before .before .before .args .r) → (p ≡ planOf (c .before .before .before .before .before .before .args .r)) × Sized p
-planned c p e = (e, rw e (sized _ (c .before .before .before .before .before .before .pre)))
+planned : (c : tie.After-row-power) → (p : Plan) → p ≡ planOf (c .before .before .before .before .before .before .before .args .r) → (p ≡ planOf (c .before .before .before .before .before .before .before .args .r)) × Sized p
+planned c p e = (e, rw e (sized _ (c .before .before .before .before .before .before .before .pre)))
+
+-- one moved up by a few places
+power : (n : ℕ) → n < 32 → 1 * 2 ^ n % 2 ^ 64 ≡ 2 ^ n
+power n h = shl-exact {a = 1} 1 n 64 (omega arith) (omega arith) ∙ one-mul (2 ^ n)
 
 pub plan-of-spec : {M : Type 1} → statement M
 unfolding planOf
@@ -26,12 +34,17 @@ plan-of-spec =
     (λ c κs. tt)
     (λ c κs. tt)
     (λ c κs. tt)
-    (λ c. let lines = c .before .before .before in omega (arith, visible-by _ (bounds (lines .before)) _ (lines .displayed-lines .ensures)))
-    (λ c. let b = bounds (c .before .before .before .before .before) in omega (arith, b .meminit .high, b .transferdelay .high))
+    (λ c κs. tt)
+    (λ c. let lines = c .before .before .before .before in omega (arith, visible-by _ (bounds (lines .before)) _ (lines .displayed-lines .ensures)))
+    (λ c. let b = bounds (c .before .before .before .before .before .before) in omega (arith, b .meminit .high, b .transferdelay .high))
     (λ c. omega arith)
     (λ c. omega arith)
     (λ c. omega arith)
+    (λ c. omega (arith, c .before .row-power .ensures .1))
     (λ c.
     let rows = c .before in
-    let lines = rows .before .before .before in
-    planned rows _ (rw (lines .displayed-lines .ensures, lines .before .screen-of .ensures, rows .before .before .address-increment .ensures, rows .before .top-used .ensures, rows .row-divisor .ensures))))
+    let made = rows .before .before in
+    let lines = made .before .before in
+    let r = lines .before .before .before .args .r in
+    planned rows _
+    (rw (power _ (rows .row-power .ensures .1), rows .row-power .ensures .0, rows .before .top-used .ensures, made .numbers .ensures, top-bare r, divisor-bare r, lines .displayed-lines .ensures, lines .before .screen-of .ensures, made .before .address-increment .ensures))))

@@ -1,0 +1,46 @@
+-- A run as the code goes about it, with the registers outside: some ticks one by one, then whole frames at once. r: the registers, g: the
+-- generator that it begins with. Assumes nothing.
+use Prim.Native.Nat.{ℕ, _≤_, _<_}
+use mathlib.Core.Bool.{Bool, true, cond, _&&_}
+use mathlib.Core.List.{List}
+use mathlib.Core.Path.{_≡_}
+use lib.Dec.{eqb}
+use Rattle.control.specs.Control.{running}
+use Rattle.registers.specs.declared.Registers.{Registers}
+use Rattle.generator.specs.Sound.{Sound}
+use Rattle.generator.specs.declared.Generator.{Generator}
+use Rattle.machine.specs.declared.Machine.{Machine}
+use Rattle.frame.specs.Frame.{AtStart}
+use Rattle.calls.specs.Calls.{ranOf}
+use Rattle.calls.specs.declared.Ran.{Ran}
+use Rattle.calls.specs.declared.Went.{Went}
+
+-- before the first tick of a frame
+abbrev pub isStart : Generator → Bool
+isStart g = eqb (g .half .0) 0 && eqb (g .at .0) 0
+
+abbrev pub machineOf : Registers → Generator → Machine
+machineOf r g = record { regs = r; generator = g }
+
+-- what has been done, with the registers put back
+abbrev pub ranIn : Registers → Went → Ran
+ranIn r w = record { done = w .done; refusal = w .refusal; machine = machineOf r (w .next) }
+
+-- up to so many ticks: as many as were done, or with a refused one all of them; fewer, unrefused, only to a frame's start
+pub record Part (r : Registers) (memory : List ℕ) (g : Generator) (count : ℕ) (halts : Bool) (w : Went) : Type 0 where
+  pub ran : ranIn r w ≡ ranOf memory (machineOf r g) (cond (eqb (w .refusal) 0) (w .done) count)
+  pub most : w .done ≤ count
+  pub early : w .refusal ≡ 0 → w .done < count → (halts ≡ true) × AtStart (w .next)
+  pub sound : Sound r (w .next)
+
+-- exactly so many ticks
+pub record Exactly (r : Registers) (memory : List ℕ) (g : Generator) (count : ℕ) (w : Went) : Type 0 where
+  pub ran : ranIn r w ≡ ranOf memory (machineOf r g) count
+  pub most : w .done ≤ count
+  pub sound : Sound r (w .next)
+
+-- some ticks are due only at a frame's start
+pub record Starts (r : Registers) (g : Generator) (count : ℕ) : Type 0 where
+  pub runs : running (r .control) ≡ true
+  pub start : 0 < count → AtStart g
+  pub sound : Sound r g

@@ -1,0 +1,2 @@
+-- What the measured loop's proof cites.
+pub mod Loop
