@@ -1,2 +1,3 @@
 -- Laws of the form.
 mod Cases
+mod Missed

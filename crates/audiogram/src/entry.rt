@@ -1,7 +1,9 @@
 // Which palette entry each pixel of a clinical audiogram has. Any levels and any point may be asked about.
 ghost use mathlib.Core.Path.{_≡_};
+ghost use mathlib.Core.Bool.{cond};
 ghost use Prim.Native.Nat.{_≤_};
-ghost use Rattle.audiogram.specs.Entry.{entryAt};
+ghost use Rattle.audiogram.specs.Form.{form};
+ghost use Rattle.audiogram.specs.Entry.{entryAt, formEntry, paperEntry};
 use crate::form;
 use marks::ear;
 use marks::points::Point;
@@ -16,6 +18,20 @@ pub fn entry_at(right: &[u8; 11], left: &[u8; 11], p: Point) -> u8
     }
     if ear::shows(false, left, p) {
         return 2;
+    }
+    if form::shows(p) {
+        return 3;
+    }
+    0
+}
+
+// The same where an ear may be near; far from both the form alone is asked.
+pub fn entry_near(near: bool, right: &[u8; 11], left: &[u8; 11], p: Point) -> u8
+    ensures entry { λ r. ⌜ r ≡ cond near (entryAt (now (right .entry)) (now (left .entry)) p) (cond (form p) formEntry paperEntry) ⌝ }
+    ensures bound { λ r. ⌜ r ≤ 3 ⌝ }
+{
+    if near {
+        return entry_at(right, left, p);
     }
     if form::shows(p) {
         return 3;

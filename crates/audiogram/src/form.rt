@@ -1,7 +1,7 @@
 // The form that a chart is drawn on: the grid, and the labels beside it.
 ghost use mathlib.Core.Path.{_≡_};
-ghost use mathlib.Core.Bool.{_&&_};
-ghost use Prim.Native.Nat.{_<_};
+ghost use mathlib.Core.Bool.{false, _&&_};
+ghost use Prim.Native.Nat.{ℕ, _<_, _≤_};
 ghost use lib.ListN.{getD};
 ghost use Rattle.audiogram.specs.Form.{grid, font, inked, dot, textAt, labelled, form};
 use marks::points::Point;
@@ -205,13 +205,38 @@ fn is_label(k: usize, p: Point) -> bool
     is_text((7 <= k) & (k <= 10), from, TEXTS[k], p)
 }
 
+// The labels that a pixel is asked about.
+struct Labels {
+    first: usize,
+    end: usize,
+}
+
+// The labels that can reach a pixel: those at the right, at the top, at the left, and on the grid none.
+fn labels_at(p: Point) -> Labels
+    ensures bound { λ r. ⌜ (r .first ≤ 29) × (r .end ≤ 29) ⌝ }
+    ensures before { λ r. ⌜ ((k : ℕ) → k < r .first → labelled p k ≡ false) ⌝ }
+    ensures after { λ r. ⌜ ((k : ℕ) → r .end ≤ k → k < 29 → labelled p k ≡ false) ⌝ }
+{
+    if 540 <= p.x {
+        return Labels { first: 25, end: 29 };
+    }
+    if p.y < 36 {
+        return Labels { first: 0, end: 12 };
+    }
+    if p.x < 80 {
+        return Labels { first: 11, end: 27 };
+    }
+    Labels { first: 0, end: 0 }
+}
+
 // A pixel of the form.
 pub fn shows(p: Point) -> bool
     ensures test { λ r. ⌜ r ≡ form p ⌝ }
 {
+    let asked = labels_at(p);
     let mut covered = is_grid(p);
-    let mut k: usize = 0;
-    while k < 29 {
+    let mut k = asked.first;
+    while k < asked.end {
         covered = covered | is_label(k, p);
         k += 1;
     }

@@ -5,6 +5,7 @@ mod form;
 ghost use mathlib.Core.Path.{_≡_};
 ghost use Prim.Native.Nat.{_<_, min};
 ghost use Rattle.audiogram.specs.Picture.{byteAt, drawn, size};
+use marks::ear;
 use marks::points::Point;
 use patient::thresholds::Chart;
 
@@ -18,10 +19,11 @@ fn byte_at(right: &[u8; 11], left: &[u8; 11], i: usize) -> u8
 {
     let x = (i % 160 * 4) as u16;
     let y = (i / 160) as u16;
-    let first = entry::entry_at(right, left, Point { x, y });
-    let second = entry::entry_at(right, left, Point { x: x + 1, y });
-    let third = entry::entry_at(right, left, Point { x: x + 2, y });
-    let fourth = entry::entry_at(right, left, Point { x: x + 3, y });
+    let near = ear::is_near(right, Point { x, y }) | ear::is_near(left, Point { x, y });
+    let first = entry::entry_near(near, right, left, Point { x, y });
+    let second = entry::entry_near(near, right, left, Point { x: x + 1, y });
+    let third = entry::entry_near(near, right, left, Point { x: x + 2, y });
+    let fourth = entry::entry_near(near, right, left, Point { x: x + 3, y });
     first + 4 * second + 16 * third + 64 * fourth
 }
 

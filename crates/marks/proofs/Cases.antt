@@ -1,11 +1,12 @@
 -- Cases of marks and lines, over plain numbers. Assumes nothing.
 use Prim.Native.Nat.{ℕ, _+_, _*_, _-_}
 use mathlib.Core.Path.{_≡_}
-use mathlib.Core.Bool.{Bool, cond, _&&_}
+use mathlib.Core.Bool.{Bool, cond, _&&_, _||_}
 use lib.Dec.{ltb, leb}
 use Rattle.marks.specs.Points.{apart, distance}
 use Rattle.marks.specs.declared.points.Point.{Point}
 use Rattle.marks.specs.Marks.{ring, cross, mark, reach, line}
+use Rattle.marks.specs.Near.{markEnds, thickness, close}
 
 -- a line, of its products and distances
 module _ (p from to : Point) (left right width a b is far most near next : ℕ) where
@@ -18,3 +19,9 @@ module _ (right : Bool) (p centre : Point) where
   pub mark-made : (round crossed r : Bool) → round ≡ ring p centre → crossed ≡ cross p centre → r ≡ cond right round crossed → r ≡ mark right p centre
   unfolding mark
   mark-made round crossed r e f g = rw (g, e, f)
+
+-- a box, of its sides
+module _ (p from to : Point) (left right low high up : ℕ) where
+  pub close-made : left ≡ from .x - (markEnds + 3) → right ≡ p .x - markEnds → low ≡ from .y - thickness → high ≡ to .y - thickness → up ≡ p .y - thickness → (leb left (p .x) && leb right (to .x) && (leb low (p .y) || leb high (p .y)) && (leb up (from .y) || leb up (to .y))) ≡ close p from to
+  unfolding close
+  close-made e f g h i = rw (e, f, g, h, i)

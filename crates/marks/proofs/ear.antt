@@ -1,2 +1,3 @@
 -- Laws of an ear.
 mod Cases
+pub mod Near

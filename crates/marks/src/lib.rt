@@ -4,6 +4,7 @@ pub mod points;
 
 ghost use mathlib.Core.Path.{_≡_};
 ghost use Rattle.marks.specs.Marks.{ring, cross, mark, line, reach as Marks·reach};
+ghost use Rattle.marks.specs.Near.{close};
 use crate::points::Point;
 use crate::points::apart;
 use crate::points::between;
@@ -56,4 +57,20 @@ pub fn is_line(p: Point, from: Point, to: Point) -> bool
     let near = between(due, is) <= reach(from, to) as u64;
     let free = (56 < distance(p, from)) & (56 < distance(p, to));
     (from.x <= p.x) & (p.x <= to.x) & near & free
+}
+
+// A mark ends so many pixels from its centre; the steepest line is so many rows thick to each side.
+const MARK_ENDS: u16 = 7;
+
+const THICKNESS: u16 = 13;
+
+// One of four pixels from p on lies in the box that a mark at `to`, and a line to it, cannot leave.
+fn is_close(p: Point, from: Point, to: Point) -> bool
+    ensures test { λ r. ⌜ r ≡ close p from to ⌝ }
+{
+    let beside = (less(from.x, MARK_ENDS + 3) <= p.x) & (less(p.x, MARK_ENDS) <= to.x);
+    let under = (less(from.y, THICKNESS) <= p.y) | (less(to.y, THICKNESS) <= p.y);
+    let up = less(p.y, THICKNESS);
+    let over = (up <= from.y) | (up <= to.y);
+    beside & under & over
 }

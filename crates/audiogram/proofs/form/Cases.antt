@@ -1,27 +1,40 @@
 -- Cases of the form's functions, over plain tests. Assumes nothing.
-use Prim.Native.Nat.{ℕ, _+_, _*_, _-_, _/_, _%_, _^_}
-use mathlib.Core.Path.{_≡_, sym, ap, _∙_}
-use mathlib.Core.Bool.{Bool, true, cond, _&&_, _||_, or-false, or-assoc}
+use Prim.Native.Nat.{ℕ, zero, suc, _+_, _*_, _-_, _/_, _%_, _^_, _≤_, _<_}
+use mathlib.Core.Path.{_≡_, sym, _∙_}
+use mathlib.Core.Bool.{Bool, true, false, cond, _&&_, _||_, or-false, or-assoc}
+use mathlib.Core.Logic.{⊎-elim}
 use native.Mathlib.Numerals.{add-one}
+use native.Mathlib.Omega.{arith}
 use lib.Dec.{ltb, leb, eqb}
 use lib.ListN.{getD}
 use Rattle.base.specs.Count.{some}
+use Rattle.base.proofs.Bools.{below}
+use Rattle.base.proofs.Some.{some-none}
 use Rattle.audiogram.specs.Form.{grid, font, inked, lefts, tops, texts, dot, textAt, labelled, form}
 use Rattle.marks.specs.declared.points.Point.{Point}
 
--- the form, label by label
+-- numbers that do not pass decide nothing
+some-past : (test : ℕ → Bool) (k n : ℕ) → k ≤ n → ((j : ℕ) → k ≤ j → j < n → test j ≡ false) → some test n ≡ some test k
+unfolding some
+some-past test k zero h none = let e : k ≡ 0 = omega arith in rw e
+some-past test k (suc n) h none =
+    ⊎-elim
+    (λ l. let e : k ≡ suc n = omega arith in rw e)
+    (λ l. rw (none n l (omega arith)) (or-false (some test n) ∙ some-past test k n l (λ j a b. none j a (omega arith))))
+    (below n k)
+
+-- the form, label by label, from one before which there is none to one after which there is none
 module _ (p : Point) where
-  pub form-none : (now : Bool) → now ≡ grid p → now ≡ (grid p || some (λ k. labelled p k) 0)
-  unfolding some
-  form-none now e = e ∙ sym (or-false (grid p))
+  pub form-none : (k : ℕ) (now : Bool) → now ≡ grid p → ((j : ℕ) → j < k → labelled p j ≡ false) → now ≡ (grid p || some (λ j. labelled p j) k)
+  form-none k now e none = e ∙ rw (some-none (λ j. labelled p j) k none) (sym (or-false (grid p)))
 
   pub form-more : (k : ℕ) (now next : Bool) → now ≡ (grid p || some (λ k. labelled p k) k) → next ≡ labelled p k → (now || next) ≡ (grid p || some (λ k. labelled p k) (k + 1))
   unfolding some
   form-more k now next e h = rw (add-one k, e, h) (or-assoc (grid p) (some (λ k. labelled p k) k) (labelled p k))
 
-  pub form-whole : (k : ℕ) (now : Bool) → k ≡ 29 → now ≡ (grid p || some (λ k. labelled p k) k) → now ≡ form p
+  pub form-whole : (k : ℕ) (now : Bool) → k ≤ 29 → ((j : ℕ) → k ≤ j → j < 29 → labelled p j ≡ false) → now ≡ (grid p || some (λ k. labelled p k) k) → now ≡ form p
   unfolding form
-  form-whole k now e h = h ∙ ap (λ (n : ℕ). grid p || some (λ k. labelled p k) n) e
+  form-whole k now l none h = h ∙ rw (some-past (λ j. labelled p j) k 29 l none)
 
 -- a text, of a pixel's place in it
 module _ (small : Bool) (from : Point) (text : ℕ) (p : Point) (across down column row : ℕ) where

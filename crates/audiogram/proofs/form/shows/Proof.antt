@@ -11,19 +11,23 @@ use Rattle.audiogram.proofs.form.shows.Statement.{statement}
 use Rattle.audiogram.proofs.form.shows.Tie as tie
 
 abbrev Inv-loop : tie.InvT-loop
-Inv-loop p covered₀ k₀ covered k = (k ≤ 29) × (covered ≡ (grid p || some (λ j. labelled p j) k))
+Inv-loop p asked covered₀ k₀ covered k = (k ≤ 29) × (covered ≡ (grid p || some (λ j. labelled p j) k))
 
 abbrev μ-loop : tie.MeasureT-loop
-μ-loop p covered₀ k₀ covered k = 29 - k
+μ-loop p asked covered₀ k₀ covered k = asked .end - k
 
 loop-holds : tie.Need-loop-holds Inv-loop μ-loop
-loop-holds c = (omega arith, form-none _ _ (c .is-grid .ensures))
+loop-holds c =
+    let asked = c .before .labels-at .ensures in
+    (asked .0 .0, form-none _ _ _ (c .is-grid .ensures) (asked .1 .0))
 
 loop-again : tie.Need-loop-again Inv-loop μ-loop
-loop-again c = (omega arith, form-more _ _ _ _ (c .before .before .loop .inv .1) (c .is-label .ensures))
+loop-again c = (omega arith, form-more _ _ _ _ (c .before .before .before .loop .inv .1) (c .is-label .ensures))
 
 returns : tie.Need-returns Inv-loop μ-loop
-returns c = form-whole _ _ _ (omega arith) (c .before .loop .inv .1)
+returns c =
+    let l = c .before .before .loop in
+    form-whole _ (l .k) _ (l .inv .0) (λ j h i. c .before .before .before .before .labels-at .ensures .1 .1 j (omega arith) i) (l .inv .1)
 
 pub shows-spec : {M : Type 1} → statement M
 shows-spec =
@@ -31,6 +35,7 @@ shows-spec =
     (tie.spec
     Inv-loop
     μ-loop
+    (λ c κs. tt)
     (λ c κs. tt)
     loop-holds
     (λ c κs. search needs)
