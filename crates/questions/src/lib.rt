@@ -1,7 +1,13 @@
 // The commands that only ask: in answers what they found is shown, elsewhere nothing unless they are refused.
 ghost use mathlib.Core.Path.{_≡_};
-ghost use lib.ListN.{length};
+ghost use lib.ListN.{length, take};
 ghost use Rattle.generator.specs.Sound.{Sound};
+ghost use Rattle.room.specs.Room.{putTexts, putEnds};
+ghost use Rattle.machine.specs.Rules.{answered};
+ghost use Rattle.calls.specs.Nine.{nineOf};
+ghost use Rattle.questions.specs.Questions.{readTexts, nineTexts, sheetAsked, sheetTexts, fieldAsked, fieldTexts, compareAsked, compareTexts, findRefusal, findTexts};
+ghost use Rattle.questions.specs.Answers.{isBrief, rowsShown, bytesShown, answerShown};
+ghost use Rattle.paperwork.specs.Store.{storedOf};
 use machine::Machine;
 use paperwork::store;
 use report::ANSWERS;
@@ -18,12 +24,17 @@ struct Finding {
 }
 
 // Only a verdict is due.
-fn is_brief(p: Page, refusal: u32) -> bool {
+fn is_brief(p: Page, refusal: u32) -> bool
+    ensures brief { λ r. ⌜ r ≡ isBrief p refusal ⌝ }
+{
     (refusal != 0) | (p.form != ANSWERS)
 }
 
 // Bytes in hexadecimal, 32 a line.
-fn rows(p: Page, out: &mut [u8], bytes: &[u8]) -> Page {
+fn rows(p: Page, out: &mut [u8], bytes: &[u8]) -> Page
+    ensures page { λ r. ⌜ r ≡ rowsShown p (now (out .entry)) (now (bytes .entry)) .page ⌝ }
+    ensures bytes { λ _. ⌜ now (out .exit) ≡ rowsShown p (now (out .entry)) (now (bytes .entry)) .bytes ⌝ }
+{
     let mut page = p;
     let mut from: usize = 0;
     while from < bytes.len() {
@@ -39,6 +50,8 @@ fn rows(p: Page, out: &mut [u8], bytes: &[u8]) -> Page {
 // Bytes that were asked for, or a refusal.
 pub fn show_bytes(p: Page, out: &mut [u8], refusal: u32, bytes: &[u8]) -> Page
     ensures room { λ _. ⌜ length (now (out .exit)) ≡ length (now (out .entry)) ⌝ }
+    ensures page { λ r. ⌜ r ≡ bytesShown p (now (out .entry)) refusal (now (bytes .entry)) .page ⌝ }
+    ensures bytes { λ _. ⌜ now (out .exit) ≡ bytesShown p (now (out .entry)) refusal (now (bytes .entry)) .bytes ⌝ }
 {
     let page = report::verdict(p, out, refusal);
     if is_brief(p, refusal) {
@@ -50,6 +63,9 @@ pub fn show_bytes(p: Page, out: &mut [u8], refusal: u32, bytes: &[u8]) -> Page
 // `read ADDRESS`.
 fn read(at: usize, m: Machine, out: &mut [u8], address: u32) -> Finding
     requires { ⌜ Sound (m .regs) (m .generator) ⌝ }
+    ensures refusal { λ r. ⌜ r .refusal ≡ answered m address .refusal ⌝ }
+    ensures place { λ r. ⌜ r .end ≡ putEnds (now (out .entry)) at (readTexts m address) ⌝ }
+    ensures bytes { λ _. ⌜ now (out .exit) ≡ putTexts (now (out .entry)) at (readTexts m address) ⌝ }
 {
     let answer = m.read(address);
     let value = text::put_hex(out, at, answer.value);
@@ -63,6 +79,9 @@ fn read(at: usize, m: Machine, out: &mut [u8], address: u32) -> Finding
 // `nine`.
 fn nine(at: usize, m: Machine, out: &mut [u8]) -> Finding
     requires { ⌜ Sound (m .regs) (m .generator) ⌝ }
+    ensures refusal { λ r. ⌜ r .refusal ≡ nineOf m .refusal ⌝ }
+    ensures place { λ r. ⌜ r .end ≡ putEnds (now (out .entry)) at (nineTexts m) ⌝ }
+    ensures bytes { λ _. ⌜ now (out .exit) ≡ putTexts (now (out .entry)) at (nineTexts m) ⌝ }
 {
     let sums = calls::nine(m);
     let words = sums.words;
@@ -77,7 +96,11 @@ fn nine(at: usize, m: Machine, out: &mut [u8]) -> Finding
 }
 
 // `sheet BYTE...`.
-fn sheet(at: usize, c: Command, out: &mut [u8]) -> Finding {
+fn sheet(at: usize, c: Command, out: &mut [u8]) -> Finding
+    ensures refusal { λ r. ⌜ r .refusal ≡ sheetAsked c .refusal ⌝ }
+    ensures place { λ r. ⌜ r .end ≡ putEnds (now (out .entry)) at (sheetTexts c) ⌝ }
+    ensures bytes { λ _. ⌜ now (out .exit) ≡ putTexts (now (out .entry)) at (sheetTexts c) ⌝ }
+{
     let sheet = paperwork::sheet_of(c);
     let values = sheet.values;
     let ok = room::put(out, at, b"ok");
@@ -89,7 +112,11 @@ fn sheet(at: usize, c: Command, out: &mut [u8]) -> Finding {
 }
 
 // `field TAG BYTE...`.
-fn field(at: usize, c: Command, out: &mut [u8]) -> Finding {
+fn field(at: usize, c: Command, out: &mut [u8]) -> Finding
+    ensures refusal { λ r. ⌜ r .refusal ≡ fieldAsked c .refusal ⌝ }
+    ensures place { λ r. ⌜ r .end ≡ putEnds (now (out .entry)) at (fieldTexts c) ⌝ }
+    ensures bytes { λ _. ⌜ now (out .exit) ≡ putTexts (now (out .entry)) at (fieldTexts c) ⌝ }
+{
     let answer = paperwork::field_of(c);
     let end = text::put_count(out, at, b"", answer.value as u64);
     Finding {
@@ -99,7 +126,11 @@ fn field(at: usize, c: Command, out: &mut [u8]) -> Finding {
 }
 
 // `compare BYTE... / BYTE...`.
-fn compare(at: usize, c: Command, out: &mut [u8]) -> Finding {
+fn compare(at: usize, c: Command, out: &mut [u8]) -> Finding
+    ensures refusal { λ r. ⌜ r .refusal ≡ compareAsked c .refusal ⌝ }
+    ensures place { λ r. ⌜ r .end ≡ putEnds (now (out .entry)) at (compareTexts c) ⌝ }
+    ensures bytes { λ _. ⌜ now (out .exit) ≡ putTexts (now (out .entry)) at (compareTexts c) ⌝ }
+{
     let comparison = paperwork::comparison_of(c);
     let end = room::put_either(out, at, comparison.equal, b"same\n", b"different\n");
     Finding {
@@ -109,7 +140,10 @@ fn compare(at: usize, c: Command, out: &mut [u8]) -> Finding {
 }
 
 // `store ROOM VALUE x14`.
-fn store(p: Page, c: Command, out: &mut [u8]) -> Page {
+fn store(p: Page, c: Command, out: &mut [u8]) -> Page
+    ensures page { λ r. ⌜ r ≡ bytesShown p (now (out .entry)) (storedOf c .refusal) (take (storedOf c .room) (storedOf c .bytes)) .page ⌝ }
+    ensures bytes { λ _. ⌜ now (out .exit) ≡ bytesShown p (now (out .entry)) (storedOf c .refusal) (take (storedOf c .room) (storedOf c .bytes)) .bytes ⌝ }
+{
     let stored = store::stored_of(c);
     let bytes = stored.bytes;
     let room = stored.room;
@@ -119,6 +153,9 @@ fn store(p: Page, c: Command, out: &mut [u8]) -> Page {
 // A command that finds something out.
 fn find(at: usize, c: Command, m: Machine, out: &mut [u8]) -> Finding
     requires { ⌜ Sound (m .regs) (m .generator) ⌝ }
+    ensures refusal { λ r. ⌜ r .refusal ≡ findRefusal c m ⌝ }
+    ensures place { λ r. ⌜ r .end ≡ putEnds (now (out .entry)) at (findTexts c m) ⌝ }
+    ensures bytes { λ _. ⌜ now (out .exit) ≡ putTexts (now (out .entry)) at (findTexts c m) ⌝ }
 {
     let left = c.left;
     let values = left.values;
@@ -141,6 +178,8 @@ fn find(at: usize, c: Command, m: Machine, out: &mut [u8]) -> Finding
 pub fn answer(p: Page, c: Command, m: Machine, out: &mut [u8]) -> Page
     requires { ⌜ Sound (m .regs) (m .generator) ⌝ }
     ensures room { λ _. ⌜ length (now (out .exit)) ≡ length (now (out .entry)) ⌝ }
+    ensures page { λ r. ⌜ r ≡ answerShown p c m (now (out .entry)) .page ⌝ }
+    ensures bytes { λ _. ⌜ now (out .exit) ≡ answerShown p c m (now (out .entry)) .bytes ⌝ }
 {
     if c.name == names::STORE {
         return store(p, c, out);

@@ -6,6 +6,7 @@ use mathlib.Core.Path.{_≡_, refl, sym, ap, _∙_}
 use lib.ListN.{length, take}
 use native.Mathlib.Omega.{arith}
 use borrow.Author.Tests.{eq-eqb, ne-eqb}
+use Rattle.machine.specs.Rules.{beginning}
 use Rattle.machine.specs.declared.Machine.{Machine}
 use Rattle.script.specs.declared.command.Command.{Command}
 use Rattle.script.specs.Names.{kindOf, runsTicks}
@@ -13,7 +14,11 @@ use Rattle.script.specs.Script.{skipped, lineCommand, ticksOf}
 use Rattle.changes.specs.declared.Done.{Done}
 use Rattle.changes.specs.Changes.{runDone}
 use Rattle.changes.proofs.Laws.{Does, does-tick}
-use Rattle.session.specs.Session.{lineDone, lineMemory, linePicture}
+use Rattle.session.specs.Session.{firstDone, lineDone, lineMemory, linePicture}
+
+-- before a script's first line
+pub first-done : (m : Machine) → m ≡ beginning → _≡_ {A = Done} (record { refusal = 0; ticks = 0; memory = 0; machine = m }) firstDone
+first-done m e = rw e refl
 
 -- ticks are shown only where a command runs some
 pub shown-runs : (b : Bool) (k e : ℕ) → e ≡ cond b k 0 → e ≡ runsTicks → k ≡ runsTicks

@@ -1,2 +1,3 @@
--- Laws of what a line does.
+-- Laws of what a line does, and of what is shown of it.
 mod Laws
+mod Showing

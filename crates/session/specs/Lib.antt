@@ -1,2 +1,3 @@
--- What a line of a script does.
+-- What a line of a script does, and what is shown of it.
 pub mod Session
+pub mod Shows

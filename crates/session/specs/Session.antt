@@ -4,10 +4,15 @@ use Prim.Native.Nat.{ℕ}
 use mathlib.Core.Bool.{Bool, not, cond, _||_}
 use mathlib.Core.List.{List}
 use lib.Dec.{eqb}
+use Rattle.machine.specs.Rules.{beginning}
 use Rattle.script.specs.Script.{skipped, lineCommand}
 use Rattle.changes.specs.LentMemory.{memoryAfter}
 use Rattle.changes.specs.declared.Done.{Done}
 use Rattle.changes.specs.Changes.{doneOf, pictureAfter}
+
+-- before a script's first line
+abbrev pub firstDone : Done
+firstDone = record { refusal = 0; ticks = 0; memory = 0; machine = beginning }
 
 -- a line that does nothing: one that is skipped, or is at fault
 abbrev pub idle : List ℕ → ℕ → Bool

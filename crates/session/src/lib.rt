@@ -5,7 +5,8 @@ ghost use lib.ListN.{length};
 ghost use Rattle.generator.specs.Sound.{Sound};
 ghost use Rattle.changes.specs.LentMemory.{memoryAfter};
 ghost use Rattle.changes.specs.Changes.{runDone, doneOf, pictureAfter};
-ghost use Rattle.session.specs.Session.{lineDone, lineMemory, linePicture};
+ghost use Rattle.session.specs.Session.{firstDone, lineDone, lineMemory, linePicture};
+ghost use Rattle.session.specs.Shows.{openShown, closeShown, ppmShown, isShown, tickShown, ticksShown, runShown, pictureShown, resultShown, commandShown, lineShown};
 use changes::Done;
 use input::LINE;
 use machine::Machine;
@@ -30,16 +31,11 @@ const PICTURE_BYTES: usize = 3145728;
 
 const ROOM: usize = 65536;
 
-fn memory_room() -> [u8; MEMORY] {
-    [0; MEMORY]
-}
-
-fn picture_room() -> [u8; PICTURE_BYTES] {
-    [0; PICTURE_BYTES]
-}
-
 // One tick's signals, or its refusal.
-fn show_tick(p: Page, out: &mut [u8; ROOM], refusal: u32, s: signals::Signals) -> Page {
+fn show_tick(p: Page, out: &mut [u8; ROOM], refusal: u32, s: signals::Signals) -> Page
+    ensures page { λ r. ⌜ r ≡ tickShown p (now (out .entry)) refusal s .page ⌝ }
+    ensures bytes { λ _. ⌜ now (out .exit) ≡ tickShown p (now (out .entry)) refusal s .bytes ⌝ }
+{
     let page = report::space(p, out);
     if refusal == 0 {
         return report::tick(page, out, s);
@@ -52,18 +48,27 @@ fn ticks(d: Desk, memory: &[u8], out: &mut [u8; ROOM], count: u32) -> Desk
     requires { ⌜ Sound (d .done .machine .regs) (d .done .machine .generator) ⌝ }
     ensures done { λ r. ⌜ r .done ≡ runDone (d .done .machine) (d .done .memory) (now (memory .entry)) count ⌝ }
     ensures sound { λ r. ⌜ Sound (r .done .machine .regs) (r .done .machine .generator) ⌝ }
+    ensures page { λ r. ⌜ r .page ≡ ticksShown (d .done .machine .regs) (now (memory .entry)) (d .done .machine .generator) (record { page = d .page; bytes = now (out .entry) }) count .page ⌝ }
+    ensures bytes { λ _. ⌜ now (out .exit) ≡ ticksShown (d .done .machine .regs) (now (memory .entry)) (d .done .machine .generator) (record { page = d .page; bytes = now (out .entry) }) count .bytes ⌝ }
 {
     let before = d.done;
-    let mut machine = before.machine;
+    let machine = before.machine;
+    let regs = machine.regs;
+    let colours = regs.colours;
+    let palette = regs.palette;
+    let store = regs.store;
+    let n = regs.numbers();
+    let mut generator = machine.generator;
     let mut page = d.page;
     let mut ticks: u32 = 0;
     while ticks < count {
-        let next = calls::tick(machine, memory);
+        let next = generator::tick_with(n, &colours, &palette, &store, generator, memory);
         let refusal = next.refusal;
         let signals = next.signals;
-        machine = next.machine;
+        generator = next.next;
         page = show_tick(page, out, refusal, signals);
         if refusal != 0 {
+            let machine = Machine { regs, generator };
             let done = Done {
                 refusal,
                 ticks,
@@ -74,6 +79,7 @@ fn ticks(d: Desk, memory: &[u8], out: &mut [u8; ROOM], count: u32) -> Desk
         }
         ticks += 1;
     }
+    let machine = Machine { regs, generator };
     let done = Done {
         refusal: 0,
         ticks,
@@ -84,7 +90,10 @@ fn ticks(d: Desk, memory: &[u8], out: &mut [u8; ROOM], count: u32) -> Desk
 }
 
 // A run that is not shown: in answers how many ticks it has done. Its line is kept only there.
-fn show_run(p: Page, out: &mut [u8; ROOM], done: u32, refusal: u32) -> Page {
+fn show_run(p: Page, out: &mut [u8; ROOM], done: u32, refusal: u32) -> Page
+    ensures page { λ r. ⌜ r ≡ runShown p (now (out .entry)) done refusal .page ⌝ }
+    ensures bytes { λ _. ⌜ now (out .exit) ≡ runShown p (now (out .entry)) done refusal .bytes ⌝ }
+{
     let end = text::put_count(out, p.waiting, b"ran ", done as u64);
     let waiting = base::choose(p.form == ANSWERS, end as u64, p.waiting as u64);
     let page = report::turn(p, waiting as usize);
@@ -104,6 +113,8 @@ fn show_picture(
     length: u32,
 ) -> Page
     requires { ⌜ Sound (m .regs) (m .generator) ⌝ }
+    ensures page { λ r. ⌜ r ≡ pictureShown p m (now (picture .entry)) (now (out .entry)) refusal length .page ⌝ }
+    ensures bytes { λ _. ⌜ now (out .exit) ≡ pictureShown p m (now (picture .entry)) (now (out .entry)) refusal length .bytes ⌝ }
 {
     let mut page = p;
     let size = calls::size_of(m);
@@ -122,6 +133,8 @@ fn show_result(
     out: &mut [u8; ROOM],
 ) -> Page
     requires { ⌜ Sound (done .machine .regs) (done .machine .generator) ⌝ }
+    ensures page { λ r. ⌜ r ≡ resultShown p c done (now (picture .entry)) (now (out .entry)) .page ⌝ }
+    ensures bytes { λ _. ⌜ now (out .exit) ≡ resultShown p c done (now (picture .entry)) (now (out .entry)) .bytes ⌝ }
 {
     let kind = names::kind_of(c.name);
     let refusal = done.refusal;
@@ -141,7 +154,9 @@ fn show_result(
 }
 
 // A waveform shows the ticks of `tick` and of `run`, answers those of `tick`, a picture none.
-fn is_shown(form: u32, name: u32) -> bool {
+fn is_shown(form: u32, name: u32) -> bool
+    ensures shown { λ r. ⌜ r ≡ isShown form name ⌝ }
+{
     (form == WAVE) | ((form == ANSWERS) & (name == names::TICK))
 }
 
@@ -158,6 +173,8 @@ fn do_command(
     ensures memory { λ _. ⌜ now (memory .exit) ≡ memoryAfter c (now (memory .entry)) ⌝ }
     ensures picture { λ _. ⌜ now (picture .exit) ≡ pictureAfter c (d .done .machine) (d .done .memory) (now (memory .entry)) (now (picture .entry)) ⌝ }
     ensures sound { λ r. ⌜ Sound (r .done .machine .regs) (r .done .machine .generator) ⌝ }
+    ensures page { λ r. ⌜ r .page ≡ commandShown (d .page) c (d .done) (now (memory .entry)) (now (picture .entry)) (now (out .entry)) .page ⌝ }
+    ensures bytes { λ _. ⌜ now (out .exit) ≡ commandShown (d .page) c (d .done) (now (memory .entry)) (now (picture .entry)) (now (out .entry)) .bytes ⌝ }
 {
     let before = d.done;
     let p = d.page;
@@ -186,6 +203,8 @@ fn do_line(
     ensures memory { λ _. ⌜ now (memory .exit) ≡ lineMemory (now (line .entry)) (d .done) (now (memory .entry)) ⌝ }
     ensures picture { λ _. ⌜ now (picture .exit) ≡ linePicture (now (line .entry)) (d .done) (now (memory .entry)) (now (picture .entry)) ⌝ }
     ensures sound { λ r. ⌜ Sound (r .done .machine .regs) (r .done .machine .generator) ⌝ }
+    ensures page { λ r. ⌜ r .page ≡ lineShown (now (line .entry)) (d .page) (d .done) (now (memory .entry)) (now (picture .entry)) (now (out .entry)) .page ⌝ }
+    ensures bytes { λ _. ⌜ now (out .exit) ≡ lineShown (now (line .entry)) (d .page) (d .done) (now (memory .entry)) (now (picture .entry)) (now (out .entry)) .bytes ⌝ }
 {
     let done = d.done;
     let before = d.page;
@@ -202,7 +221,10 @@ fn do_line(
 }
 
 // The last time of a waveform, after its last tick; what waits is written.
-fn close(p: Page, out: &mut [u8; ROOM]) -> Page {
+fn close(p: Page, out: &mut [u8; ROOM]) -> Page
+    ensures page { λ r. ⌜ r ≡ closeShown p (now (out .entry)) .page ⌝ }
+    ensures bytes { λ _. ⌜ now (out .exit) ≡ closeShown p (now (out .entry)) .bytes ⌝ }
+{
     if p.form == WAVE {
         let end = text::put_count(out, p.waiting, b"#", p.ticks);
         let page = report::turn(p, end);
@@ -212,7 +234,9 @@ fn close(p: Page, out: &mut [u8; ROOM]) -> Page {
 }
 
 // A picture drawn, as a PPM on standard output; or a line on standard error.
-fn write_picture(p: Page, picture: &[u8; PICTURE_BYTES], out: &mut [u8; ROOM]) {
+fn write_picture(p: Page, picture: &[u8; PICTURE_BYTES], out: &mut [u8; ROOM])
+    ensures bytes { λ _. ⌜ now (out .exit) ≡ ppmShown p (now (out .entry)) ⌝ }
+{
     if (p.width == 0) | (p.height == 0) {
         io::write_all(2, b"draw: no picture was drawn\n");
         return;
@@ -227,6 +251,8 @@ fn write_picture(p: Page, picture: &[u8; PICTURE_BYTES], out: &mut [u8; ROOM]) {
 // Before a script's first line.
 fn first_desk(p: Page) -> Desk
     ensures sound { λ r. ⌜ Sound (r .done .machine .regs) (r .done .machine .generator) ⌝ }
+    ensures done { λ r. ⌜ r .done ≡ firstDone ⌝ }
+    ensures page { λ r. ⌜ r .page ≡ p ⌝ }
 {
     let machine = calls::begin();
     let done = Done {
@@ -259,7 +285,10 @@ fn do_script(
 }
 
 // A page with its head.
-fn open(form: u32, out: &mut [u8; ROOM]) -> Page {
+fn open(form: u32, out: &mut [u8; ROOM]) -> Page
+    ensures page { λ r. ⌜ r ≡ openShown form (now (out .entry)) .page ⌝ }
+    ensures bytes { λ _. ⌜ now (out .exit) ≡ openShown form (now (out .entry)) .bytes ⌝ }
+{
     let page = report::blank_page(form);
     if form == WAVE {
         let end = waveform::put_head(out, 0);
@@ -273,8 +302,8 @@ fn open(form: u32, out: &mut [u8; ROOM]) -> Page {
 pub fn session(form: u32) -> u64
     ensures ticks { λ r. ⌜ r ≤ 0xFFFFFFFFFFFFFFFF ⌝ }
 {
-    let mut memory = memory_room();
-    let mut picture = picture_room();
+    let mut memory = [0u8; MEMORY];
+    let mut picture = [0u8; PICTURE_BYTES];
     let mut out = io::large_buffer();
     let page = open(form, &mut out);
     let last = do_script(page, &mut memory, &mut picture, &mut out);

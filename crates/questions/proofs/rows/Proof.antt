@@ -1,20 +1,23 @@
--- `questions::rows` is safe and ends: each turn leaves fewer bytes.
-use Prim.Native.Nat.{_≤_, _-_}
-use mathlib.Core.Path.{_≡_, refl}
-use lib.ListN.{length}
+-- `questions::rows` meets its contract: each turn puts one line of those that are left.
+use Prim.Native.Nat.{_≤_, _<_, _-_}
+use mathlib.Core.Path.{_≡_, refl, ap, sym, _∙_}
+use lib.ListN.{length, drop}
 use native.Mathlib.Omega.{arith}
+use Rattle.questions.specs.Answers.{Shown, rowsShown}
+use Rattle.questions.proofs.Shown.{rows-again, rows-all}
 use borrow.Author.Needs.{needs}
 use Rattle.questions.proofs.rows.Statement.{statement}
 use Rattle.questions.proofs.rows.Tie as tie
 
 abbrev Inv-loop : tie.InvT-loop
-Inv-loop out₀ bytes page₀ from₀ out page from = (from ≤ length bytes) × (length out ≡ length out₀)
+Inv-loop out₀ bytes page₀ from₀ out page from =
+    ((from ≤ length bytes) × (length out ≡ length out₀)) × (rowsShown page out (drop from bytes) ≡ rowsShown page₀ out₀ bytes)
 
 abbrev μ-loop : tie.MeasureT-loop
 μ-loop out₀ bytes page₀ from₀ out page from = length bytes - from
 
 loop-holds : tie.Need-loop-holds Inv-loop μ-loop
-loop-holds c = (omega arith, refl)
+loop-holds c = ((omega arith, refl), refl)
 
 space-requires : tie.Need-space-requires Inv-loop μ-loop
 space-requires c κs = search needs
@@ -44,13 +47,25 @@ loop-less : tie.Need-loop-less Inv-loop μ-loop
 loop-less c = search needs
 
 loop-again : tie.Need-loop-again Inv-loop μ-loop
-loop-again c = search needs
+loop-again c =
+    let l = c .before .before .before .before .before .before .before .before .before .before .before .loop in
+    let bytes = c .before .before .before .before .before .before .before .before .before .before .before .before .before .before .args .bytes .now in
+    let q = c .before .before .before .before .put-row .ensures in
+    let n = c .later .ensures in
+    let g : l .from < length bytes = omega arith in
+    let again = rows-again bytes (l .from) _ (l .page) _ _ _ _ _ _ g (c .before .before .before .before .before .before .before .before .space .ensures) (c .before .before .before .before .before .lent .ensures) (q .0) (q .1 .0) (c .before .turn .ensures) (n .0) (n .1) in
+    ((search needs, search needs), again ∙ l .inv .1)
 
 same-length : tie.Need-same-length Inv-loop μ-loop
 same-length c = search needs
 
 returns : tie.Need-returns Inv-loop μ-loop
-returns c = search needs
+returns c =
+    let l = c .before .loop in
+    let bytes = c .before .before .before .before .args .bytes .now in
+    let g : length bytes ≤ l .from = omega arith in
+    let e = sym (rows-all bytes (l .from) (l .page) _ g) ∙ l .inv .1 in
+    (ap (λ (s : Shown). s .page) e, ap (λ (s : Shown). s .bytes) e)
 
 pub rows-spec : {M : Type 1} → statement M
 rows-spec =

@@ -1,0 +1,3 @@
+-- Laws of what is found out, and of what is shown of it.
+mod Cases
+mod Shown
