@@ -133,6 +133,14 @@ fn registers(n: &mut Numbers, params: [u32; 14], mask: u32, control: u32, top: u
 // 1,024 by 768: Display 256, VDisplay 1,536, R = 256, so that the picture is one piece of memory.
 const LARGE: [u32; 14] = [8, 20, 256, 100, 100, 6, 6, 6, 60, 1536, 320, 0, 240, 16];
 const PIXELS: usize = 1024 * 768;
+// 640 by 480, the screen of a hearing chart: Display 160, VDisplay 960, R = 1,024.
+const CHART: [u32; 14] = [12, 12, 160, 60, 88, 4, 20, 6, 60, 960, 200, 0, 1016, 8];
+
+// Three bytes for each visible pixel.
+fn bytes(r: &Registers) -> usize {
+    3 * 4 * r.params[2] as usize * (r.params[9] / 2) as usize
+}
+
 
 #[cfg(ours)]
 mod ours {
@@ -254,13 +262,20 @@ fn timed(f: fn(&Registers, &[u8], &mut [u8]) -> Result<[u32; 3], u32>, r: &Regis
 fn main() {
     let times: usize = std::env::args().nth(1).map_or(200, |w| w.parse().expect("a number of repetitions"));
     let mut n = Numbers(364);
-    let r = registers(&mut n, LARGE, 0xffffff, 0x300001, 0, 500 << 12 | 300);
-    let other = registers(&mut n, LARGE, 0xf0ff0f, 0x300001, 0, 500 << 12 | 300);
+    let mut screen = |name, params, mask, control| (name, registers(&mut n, params, mask, control, 0, 500 << 12 | 300));
+    let screens = [
+        screen("8 bits", LARGE, 0xffffff, 0x300001),
+        screen("8 bits, mask #F0FF0F", LARGE, 0xf0ff0f, 0x300001),
+        screen("4 bits", LARGE, 0xffffff, 0x200001),
+        screen("2 bits", LARGE, 0xffffff, 0x100001),
+        screen("1 bit", LARGE, 0xffffff, 0x000001),
+        screen("the chart's screen, cursor off", CHART, 0xffffff, 0x900001),
+    ];
     let memory: Vec<u8> = (0..PIXELS).map(|_| n.next() as u8).collect();
-    let mut buffer = vec![0; 3 * PIXELS];
 
     #[cfg(not(ours))]
-    for r in [&r, &other] {
+    for (name, r) in &screens {
+        let mut buffer = vec![0; bytes(r)];
         let mut best = f64::MAX;
         let mut sums = Ok([0; 3]);
         for _ in 0..times {
@@ -268,15 +283,16 @@ fn main() {
             sums = draw(black_box(r), black_box(&memory), black_box(&mut buffer));
             best = best.min(began.elapsed().as_secs_f64());
         }
-        println!("mask {:06x}: sums {:06x?}, least {:.3} ms", r.mask, sums.unwrap(), 1e3 * best);
+        println!("{name}: sums {:06x?}, least {:.3} ms", sums.unwrap(), 1e3 * best);
     }
 
     #[cfg(ours)]
     {
         compare(&mut n, 2000);
         rolled(&mut n);
-        for r in [&r, &other] {
-            let mut same = vec![0xaa; 3 * PIXELS];
+        for (name, r) in &screens {
+            let mut buffer = vec![0; bytes(r)];
+            let mut same = vec![0xaa; bytes(r)];
             let sums = draw(r, &memory, &mut buffer);
             assert_eq!(sums, ours::draw(r, &memory, &mut same));
             assert!(buffer == same);
@@ -289,7 +305,7 @@ fn main() {
             }
             plain.sort();
             proved.sort();
-            println!("mask {:06x}: sums {:06x?}, every byte and sum equal", r.mask, sums.unwrap());
+            println!("{name}: sums {:06x?}, every byte and sum equal", sums.unwrap());
             for (name, k) in [("least", 0), ("median", times / 2)] {
                 let (a, b) = (1e3 * plain[k].as_secs_f64(), 1e3 * proved[k].as_secs_f64());
                 println!("    {name:6}  plain {a:.3} ms   proved {b:.3} ms   proved / plain {:.2}", b / a);

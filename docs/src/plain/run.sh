@@ -1,5 +1,6 @@
 #!/bin/sh
-# Measures the proved picture call against plain.rs on this machine, natively: docs/src/plain/run.sh [REPETITIONS]. See docs/SPEED.md.
+# Measures the proved picture call against plain.rs and the proved tick loop against ticks.rs on this machine, natively:
+# docs/src/plain/run.sh [REPETITIONS]. See docs/SPEED.md.
 # The kit compiles for x86-64. On another processor the module that the kit hands its own clang is kept, given this machine's
 # triple and data layout, freed of two x86-64 attributes, and compiled by that clang; its code is not touched.
 set -eu
@@ -9,7 +10,7 @@ repetitions=${1:-200}
 case $repetitions in *[!0-9]* | 0) echo "usage: docs/src/plain/run.sh [REPETITIONS]" >&2; exit 2 ;; esac
 . .ci/kit.sh
 . .ci/made.sh
-command -v rustc >/dev/null 2>&1 || { echo "run.sh: rustc is not on the PATH, so plain.rs cannot be built" >&2; exit 2; }
+command -v rustc >/dev/null 2>&1 || { echo "run.sh: rustc is not on the PATH, so plain.rs and ticks.rs cannot be built" >&2; exit 2; }
 machine=$(uname -m)
 out=$here/target/speed
 rm -rf "$out"
@@ -41,5 +42,7 @@ if [ "$machine" != x86_64 ]; then
     "$out/toolchain/bin/llvm-ar" rc "$out/libspeed.a" "$out/speed.o"
 fi
 rustc --version
-rustc --edition 2021 -O --cfg ours -L "$out" -l static=speed docs/src/plain/plain.rs -o "$out/both"
-"$out/both" "$repetitions"
+for program in plain ticks; do
+    rustc --edition 2021 -O --cfg ours -L "$out" -l static=speed "docs/src/plain/$program.rs" -o "$out/$program"
+    "$out/$program" "$repetitions"
+done

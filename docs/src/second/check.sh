@@ -31,15 +31,16 @@ held() {
 
 held bench-screen docs/src/second/bench-screen.txt docs/src/second/bench-screen-expected.txt
 held bench crates/bench/stdin crates/bench/stdout
+held sections docs/src/second/sections.txt docs/src/second/sections-expected.txt
 held totals crates/totals/stdin crates/totals/stdout sheet
 # A waveform and a picture, made of its answers.
 "$work/vcd" ticked "$here/crates/trace/stdin" | "$work/second" | "$work/vcd" "$here/crates/trace/stdin" >"$work/trace.out" || :
 same crates/trace/stdout "$work/trace.out"
 "$work/second" <"$here/crates/draw/stdin" | "$work/ppm" "$here/crates/draw/stdin" >"$work/draw.out" || :
 same crates/draw/stdout "$work/draw.out"
-# The bench screen's rows, reasoned by hand, open the stored script.
-if ! head -n "$(wc -l <"$source/bench-screen.txt")" "$here/crates/bench/stdin" | cmp -s - "$source/bench-screen.txt"; then
-    echo "check: crates/bench/stdin does not begin with docs/src/second/bench-screen.txt" >&2
+# The bench screen's rows, reasoned by hand, are the stored script.
+if ! cmp -s "$here/crates/bench/stdin" "$source/bench-screen.txt"; then
+    echo "check: crates/bench/stdin is not docs/src/second/bench-screen.txt" >&2
     failed=1
 fi
 exit "$failed"
