@@ -4,6 +4,7 @@ pub mod channels;
 ghost use mathlib.Core.Path.{_≡_};
 ghost use mathlib.Core.Bool.{cond};
 ghost use Prim.Native.Nat.{_-_, _*_, _<_};
+ghost use lib.ListN.{getD};
 ghost use Rattle.base.specs.Sum.{rolled, capped};
 
 // A number where a test holds, and otherwise what the later tests gave.
@@ -31,6 +32,13 @@ pub fn less(a: u32, b: u32) -> u32
     ensures difference { λ r. ⌜ r ≡ a - b ⌝ }
 {
     if a < b { 0 } else { a - b }
+}
+
+// A byte; past the end 0.
+pub fn byte_at(bytes: &[u8], at: usize) -> u8
+    ensures byte { λ r. ⌜ r ≡ getD (now (bytes .entry)) at 0 ⌝ }
+{
+    if at < bytes.len() { bytes[at] } else { 0 }
 }
 
 // A byte made wide, with its bound.

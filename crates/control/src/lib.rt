@@ -1,7 +1,7 @@
 // Control A (01, "Register map"): which words are in the build, and what their bits mean. Any number may be asked about.
 ghost use mathlib.Core.Path.{_≡_};
 ghost use Prim.Native.Nat.{_^_, _<_};
-ghost use Rattle.control.specs.Control.{running, plain, forcedBlank, transferring, cursorOn, outside, depth, shiftPeriod, increment};
+ghost use Rattle.control.specs.Control.{field, running, plain, forcedBlank, transferring, cursorOn, outside, depth, shiftPeriod, increment};
 
 // In screen units, by depth: 1, 2, 4 and 8 bits.
 const SHIFT_PERIODS: [u32; 4] = [16, 8, 4, 2];
@@ -69,15 +69,22 @@ pub fn depth_code(control: u32) -> u32
 pub fn shift_period(control: u32) -> u32
     ensures period { λ r. ⌜ r ≡ shiftPeriod control ⌝ }
 {
-    let depth = (control / 0x100000 % 4) as usize;
+    let depth = depth_code(control) as usize;
     SHIFT_PERIODS[depth]
+}
+
+// Bits 13 and 12: 0, 1, 2 and 3 for the increments of the table.
+fn increment_code(control: u32) -> u32
+    ensures code { λ r. ⌜ r ≡ field 12 2 control ⌝ }
+{
+    control / 0x1000 % 4
 }
 
 // The address increment.
 pub fn address_increment(control: u32) -> u32
     ensures increment { λ r. ⌜ r ≡ increment control ⌝ }
 {
-    let code = (control / 0x1000 % 4) as usize;
+    let code = increment_code(control) as usize;
     INCREMENTS[code]
 }
 
@@ -86,6 +93,6 @@ pub fn increment_power(control: u32) -> u32
     ensures power { λ r. ⌜ 2 ^ r ≡ increment control ⌝ }
     ensures bound { λ r. ⌜ r < 32 ⌝ }
 {
-    let place = (control / 0x1000 % 4) as usize;
+    let place = increment_code(control) as usize;
     INCREMENT_POWERS[place]
 }

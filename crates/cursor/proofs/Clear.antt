@@ -9,7 +9,7 @@ use borrow.Author.Tests.{lt-ltb, le-ltb, ltb-true, ltb-false, leb-false}
 use lib.Dec.{ltb, leb}
 use lib.IntN.{pos, _-ℤ_}
 use Rattle.control.specs.Control.{field, cursorOn}
-use Rattle.cursor.specs.Cursor.{signed12, biased, within, cursorCode, codeOver, others, near}
+use Rattle.cursor.specs.Cursor.{signed12, biased, firstColumn, firstLine, within, cursorCode, codeOver, others, near}
 use Rattle.cursor.proofs.Cases.{code-beside, code-above}
 
 -- outside the 64 from a place on, all counted so
@@ -38,12 +38,12 @@ module _ (control position : ℕ) (store : List ℕ) (x y : ℕ) where
       go true = sym e
       go false = refl
 
-  pub beside : Outside (biased (position / 0x1000 % 0x1000)) (x + 2048) → codeOver control position store x y ≡ 0
+  pub beside : Outside (firstColumn position) (x + 2048) → codeOver control position store x y ≡ 0
   beside o =
       let e : field 0 12 (position / 0x1000) ≡ position / 0x1000 % 0x1000 = omega arith in
       none (code-beside store position x y _ refl (outside (field 0 12 (position / 0x1000)) x (omega arith) (rw e o)) .0)
 
-  pub above : Outside (biased (position % 0x1000)) (y + 2048) → codeOver control position store x y ≡ 0
+  pub above : Outside (firstLine position) (y + 2048) → codeOver control position store x y ≡ 0
   above o =
       let e : field 0 12 position ≡ position % 0x1000 = omega arith in
       none (code-above store position x y _ refl (outside (field 0 12 position) y (omega arith) (rw e o)) .0)
@@ -54,10 +54,10 @@ near-none control position x y n store k l =
     go (cursorOn control) refl (leb top line) refl (ltb line (top + 64)) refl (leb first (x + 2048 + others)) refl (ltb (x + 2048) (first + 64)) refl n
   where
     top : ℕ
-    top = biased (position % 0x1000)
+    top = firstLine position
 
     first : ℕ
-    first = biased (position / 0x1000 % 0x1000)
+    first = firstColumn position
 
     line : ℕ
     line = y + 2048

@@ -45,6 +45,13 @@ over colours (suc k) below = getD colours k 0
 abbrev pub biased : ℕ → ℕ
 biased field = (field + 2048) % 4096
 
+-- the cursor's first column and its first line, counted so
+abbrev pub firstColumn : ℕ → ℕ
+firstColumn position = biased (position / 0x1000 % 0x1000)
+
+abbrev pub firstLine : ℕ → ℕ
+firstLine position = biased (position % 0x1000)
+
 -- the pixels of a tick after its first
 abbrev pub others : ℕ
 others = 3
@@ -52,10 +59,10 @@ others = 3
 -- one of the four pixels from x on may lie in the 64 by 64, all counted so
 abbrev pub near : ℕ → ℕ → ℕ → Bool
 near position x y =
-    leb (biased (position % 0x1000)) (y + 2048) &&
-    ltb (y + 2048) (biased (position % 0x1000) + 64) &&
-    leb (biased (position / 0x1000 % 0x1000)) (x + 2048 + others) &&
-    ltb (x + 2048) (biased (position / 0x1000 % 0x1000) + 64)
+    leb (firstLine position) (y + 2048) &&
+    ltb (y + 2048) (firstLine position + 64) &&
+    leb (firstColumn position) (x + 2048 + others) &&
+    ltb (x + 2048) (firstColumn position + 64)
 
 -- a column or a row within the 64; outside it is put at 64
 abbrev pub within : ℤ → ℕ

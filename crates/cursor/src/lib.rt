@@ -4,7 +4,7 @@ ghost use Prim.Native.Nat.{_<_};
 ghost use lib.IntN.{pos, _-ℤ_};
 ghost use lib.ListN.{getD};
 ghost use Rattle.control.specs.Control.{field};
-ghost use Rattle.cursor.specs.Cursor.{signed12, within, codeAt, cursorCode, near, over};
+ghost use Rattle.cursor.specs.Cursor.{signed12, within, codeAt, cursorCode, firstColumn, firstLine, near, over};
 
 // The low 12 bits of a word, in two's complement.
 fn signed_field(word: u32) -> i64
@@ -57,13 +57,25 @@ pub fn cursor_code(store: &[u16; 512], position: u32, x: u32, y: u32) -> u32
     0
 }
 
-// The cursor may cover one of four pixels, the first of which is pixel x of line y. Columns and lines are counted from -2,048, where a signed
-// position begins.
+// The cursor's first column and its first line, counted from -2,048, where a signed position begins.
+pub fn first_column(position: u32) -> u64
+    ensures column { λ r. ⌜ r ≡ firstColumn position ⌝ }
+{
+    ((position / 0x1000 % 0x1000 + 2048) % 0x1000) as u64
+}
+
+pub fn first_line(position: u32) -> u64
+    ensures line { λ r. ⌜ r ≡ firstLine position ⌝ }
+{
+    ((position % 0x1000 + 2048) % 0x1000) as u64
+}
+
+// The cursor may cover one of four pixels, the first of which is pixel x of line y.
 pub fn is_near(position: u32, x: u32, y: u32) -> bool
     ensures test { λ b. ⌜ b ≡ near position x y ⌝ }
 {
-    let first = ((position / 0x1000 % 0x1000 + 2048) % 0x1000) as u64;
-    let top = ((position % 0x1000 + 2048) % 0x1000) as u64;
+    let first = first_column(position);
+    let top = first_line(position);
     let column = x as u64 + 2048;
     let line = y as u64 + 2048;
     (top <= line) & (line < top + 64) & (first <= column + 3) & (column < first + 64)

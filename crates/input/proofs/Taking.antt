@@ -7,7 +7,8 @@ use native.Mathlib.Numerals.{add-one}
 use native.Mathlib.Omega.{arith}
 use borrow.Author.Tests.{eq-eqb, ne-eqb}
 use lib.ListN.{length, getD, take, drop, set, length-set, drop-of-length-le}
-use lib.Seq.{drop-cons, take-nil}
+use lib.Seq.{take-nil}
+use Rattle.base.proofs.Lists.{left-from}
 use Rattle.input.specs.Input.{upToEnd, hasEnd, placed, takenLine, takenRoom, nextFrom, nextCount}
 use Rattle.input.specs.declared.Taken.{Taken}
 use Rattle.input.specs.declared.Reader.{Reader}
@@ -23,18 +24,15 @@ same-taken : (a b c d : ℕ) (e : Bool) → a ≡ b → c ≡ d → _≡_ {A = T
 same-taken a b c d e p q = rw (p, q)
 
 module _ (piece : List ℕ) (at : ℕ) (room : List ℕ) (count : ℕ) where
-  here : at < length piece → drop at piece ≡ getD piece at 0 ∷ drop (at + 1) piece
-  here h = rw (add-one) (drop-cons piece at 0 h)
-
   -- at LF, and at the piece's end, nothing more is placed
   module _ (h : at < length piece) (e : getD piece at 0 ≡ 10) where
     ended-line : takenLine piece at room count ≡ record { at = at + 1; length = count; ended = true }
     unfolding takenLine upToEnd hasEnd
-    ended-line = rw (here h, eq-eqb (getD piece at 0) 10 e, take-nil (length room - count)) (same-taken _ _ _ _ _ (omega arith) (omega arith))
+    ended-line = rw (left-from piece at h, eq-eqb (getD piece at 0) 10 e, take-nil (length room - count)) (same-taken _ _ _ _ _ (omega arith) (omega arith))
 
     ended-room : takenRoom piece at room count ≡ room
     unfolding takenRoom upToEnd
-    ended-room = rw (here h, eq-eqb (getD piece at 0) 10 e, take-nil (length room - count)) refl
+    ended-room = rw (left-from piece at h, eq-eqb (getD piece at 0) 10 e, take-nil (length room - count)) refl
 
   module _ (h : length piece ≤ at) where
     over-line : takenLine piece at room count ≡ record { at = at; length = count; ended = false }
@@ -49,11 +47,11 @@ module _ (piece : List ℕ) (at : ℕ) (room : List ℕ) (count : ℕ) where
   module _ (h : at < length piece) (e : getD piece at 0 ≡ 10 → ⊥) where
     text-on : upToEnd (drop at piece) ≡ getD piece at 0 ∷ upToEnd (drop (at + 1) piece)
     unfolding upToEnd
-    text-on = rw (here h) (simp (ne-eqb (getD piece at 0) 10 e))
+    text-on = rw (left-from piece at h) (simp (ne-eqb (getD piece at 0) 10 e))
 
     end-on : hasEnd (drop at piece) ≡ hasEnd (drop (at + 1) piece)
     unfolding hasEnd
-    end-on = rw (here h) (simp (ne-eqb (getD piece at 0) 10 e))
+    end-on = rw (left-from piece at h) (simp (ne-eqb (getD piece at 0) 10 e))
 
     module _ (k : count < length room) where
       placed-on : placed room count (upToEnd (drop at piece)) ≡ getD piece at 0 ∷ take (length room - (count + 1)) (upToEnd (drop (at + 1) piece))

@@ -1,7 +1,7 @@
 // Standard input, line by line: bytes up to LF, with a CR just before it.
 ghost use mathlib.Core.Path.{_≡_};
 ghost use Prim.Native.Nat.{_-_, _≤_};
-ghost use lib.ListN.{getD, take};
+ghost use lib.ListN.{take};
 ghost use Rattle.input.specs.Input.{takenLine, takenRoom, lineOf, firstReader, nextFrom, nextCount, isLine, oneMore};
 use room::bytes::one_less;
 
@@ -116,23 +116,13 @@ fn take_line(piece: &[u8], from: usize, line: &mut [u8], count: usize) -> Taken
     }
 }
 
-// A byte of a line; past its room 0.
-fn byte_at(line: &[u8], i: usize) -> u8
-    ensures byte { λ r. ⌜ r ≡ getD (now (line .entry)) i 0 ⌝ }
-{
-    if i < line.len() {
-        return line[i];
-    }
-    0
-}
-
 // The line that has been taken, less a CR just before its end.
 pub fn line_of(r: Reader, line: &[u8; LINE]) -> &[u8]
     ensures bytes { λ l. ⌜ now l ≡ lineOf (now (line .entry)) (r .taken .length) (r .taken .ended) ⌝ }
 {
     let taken = r.taken;
     let last = one_less(taken.length);
-    let returned = taken.ended & (byte_at(line, last) == b'\r');
+    let returned = taken.ended & (base::byte_at(line, last) == b'\r');
     let size = base::choose(returned, last as u64, taken.length as u64);
     room::lent(line, size as usize)
 }

@@ -2,6 +2,7 @@
 ghost use mathlib.Core.Path.{_≡_};
 ghost use lib.ListN.{getD};
 ghost use Rattle.machine.specs.Words.{checksumWords};
+use base::channels;
 use pixel::Sums;
 
 // The place value of byte k of a sum.
@@ -17,7 +18,7 @@ pub fn checksum_word(k: u32, sums: Sums) -> u32
         let red = sums.red / one % 0x100;
         let green = sums.green / one % 0x100;
         let blue = sums.blue / one % 0x100;
-        return red * 0x10000 + green * 0x100 + blue;
+        return channels::join(red as u8, green as u8, blue as u8);
     }
     0
 }

@@ -21,10 +21,7 @@ const NOT_MEASURED: u8 = 254;
 pub fn head(word: &[u8]) -> u8
     ensures byte { λ r. ⌜ r ≡ getD (now (word .entry)) 0 0 ⌝ }
 {
-    if word.len() == 0 {
-        return 0;
-    }
-    word[0]
+    base::byte_at(word, 0)
 }
 
 // A word as a decimal number.

@@ -15,16 +15,12 @@ pub struct Sheet {
     pub values: [u32; 14],
 }
 
-// A byte, and 0 past the end: so the tests of a field may stand in a row.
-fn byte_at(bytes: &[u8], at: usize) -> u32
+// A byte made wide, and 0 past the end: so the tests of a field may stand in a row.
+fn wide_at(bytes: &[u8], at: usize) -> u32
     ensures same { λ r. ⌜ r ≡ getD (now (bytes .entry)) at 0 ⌝ }
     ensures bound { λ r. ⌜ r < 256 ⌝ }
 {
-    if at < bytes.len() {
-        base::wide(bytes[at])
-    } else {
-        0
-    }
+    base::wide(base::byte_at(bytes, at))
 }
 
 // The bytes left from `at` on, none where the sheet has ended.
@@ -43,8 +39,8 @@ fn left_from(sheet: &[u8], at: usize) -> &[u8]
 fn field_refusal(tag: u32, left: &[u8]) -> u32
     ensures refusal { λ r. ⌜ r ≡ fieldRefusal tag (now (left .entry)) ⌝ }
 {
-    let found = byte_at(left, 0);
-    let length = 256 * byte_at(left, 1) + byte_at(left, 2);
+    let found = wide_at(left, 0);
+    let length = 256 * wide_at(left, 1) + wide_at(left, 2);
     let past_length = base::first(left.len() < 5, 30, 0);
     let past_tag = base::first(length != 2, 32, past_length);
     let begun = base::first(found != tag, 31, past_tag);
@@ -75,7 +71,7 @@ fn sheet_values(sheet: &[u8]) -> [u32; 14]
     let mut i: usize = 0;
     while i < 14 {
         let left = left_from(sheet, 5 * i);
-        values[i] = 256 * byte_at(left, 3) + byte_at(left, 4);
+        values[i] = 256 * wide_at(left, 3) + wide_at(left, 4);
         i += 1;
     }
     values

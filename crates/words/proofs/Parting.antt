@@ -3,25 +3,22 @@ use Prim.Native.Nat.{ℕ, _+_, _-_, _≤_, _<_}
 use mathlib.Core.Bool.{Bool, true, false, not, cond, _||_}
 use mathlib.Core.List.{List, [], _∷_, _++_}
 use mathlib.Core.Path.{_≡_, refl, sym, ap, _∙_}
-use native.Mathlib.Numerals.{add-one}
 use native.Mathlib.Omega.{arith}
 use lib.ListN.{length, getD, take, drop, length-append, length-drop, drop-of-length-le}
-use lib.Seq.{drop-cons, drop-length, take-append-seam, take-nil}
+use lib.Seq.{drop-length, take-append-seam, take-nil}
+use Rattle.base.proofs.Lists.{left-from}
 use Rattle.words.specs.Words.{blank, pastRun, skip, front, past, begins}
 
 module _ (line : List ℕ) (i : ℕ) where
-  here : i < length line → drop i line ≡ getD line i 0 ∷ drop (i + 1) line
-  here h = rw (add-one) (drop-cons line i 0 h)
-
   -- a byte of the run is passed, any other is its end
   module _ (blanks : Bool) where
     pub run-more : i < length line → cond blanks (blank (getD line i 0)) (not (blank (getD line i 0))) ≡ true → pastRun blanks (drop (i + 1) line) ≡ pastRun blanks (drop i line)
     unfolding pastRun
-    run-more h e = rw (here h) (simp e)
+    run-more h e = rw (left-from line i h) (simp e)
 
     pub run-stop : i < length line → cond blanks (blank (getD line i 0)) (not (blank (getD line i 0))) ≡ false → drop i line ≡ pastRun blanks (drop i line)
     unfolding pastRun
-    run-stop h e = rw (here h) (simp e)
+    run-stop h e = rw (left-from line i h) (simp e)
 
     pub run-end : length line ≤ i → drop i line ≡ pastRun blanks (drop i line)
     unfolding pastRun
@@ -31,7 +28,7 @@ module _ (line : List ℕ) (i : ℕ) where
   pub count-turn : (count total : ℕ) (inside over : Bool) (more : ℕ) → i < length line → over ≡ blank (getD line i 0) → more ≡ cond (inside || over) 0 1 → count + begins inside (drop i line) ≡ total → count + more + begins (not over) (drop (i + 1) line) ≡ total
   unfolding begins
   count-turn count total inside over more h eo em e =
-      let step : begins inside (drop i line) ≡ more + begins (not over) (drop (i + 1) line) = rw (here h, em, eo) refl in
+      let step : begins inside (drop i line) ≡ more + begins (not over) (drop (i + 1) line) = rw (left-from line i h, em, eo) refl in
       omega (arith, step)
 
   pub count-end : (count total : ℕ) (inside : Bool) → length line ≤ i → count + begins inside (drop i line) ≡ total → count ≡ total

@@ -3,12 +3,13 @@ use Prim.Native.Nat.{ℕ, _+_, _*_, _-_, _/_, _%_, _^_, _≤_, _<_}
 use mathlib.Core.Path.{_≡_, sym, _∙_}
 use mathlib.Core.Bool.{Bool, true, false, cond, _&&_, _||_, and-false, not-eq-not, true≢false}
 use mathlib.Core.List.{[], _∷_}
-use mathlib.Core.Logic.{_⊎_, ⊎-elim}
+use mathlib.Core.Logic.{⊎-elim}
 use native.Mathlib.Nat.{zero-div}
 use native.Mathlib.Omega.{arith}
 use borrow.Author.Tests.{ltb-true, leb-true, lt-leb, le-ltb}
 use lib.Dec.{T, ltb, leb, eqb, leb→le, eqb→eq}
 use lib.ListN.{getD}
+use mir.Facts.{or-yes}
 use Rattle.base.proofs.Bools.{both-hold}
 use Rattle.base.proofs.Table.{passes, entry}
 use Rattle.audiogram.specs.Form.{texts, lefts, tops, inked, dot, scaled, textAt, labelled}
@@ -37,11 +38,6 @@ misses small from text left right top bottom =
 in-dots : (small : Bool) (pixels dots : ℕ) → scaled small pixels < dots → pixels < cond small 1 2 * dots
 in-dots true pixels dots h = omega arith
 in-dots false pixels dots h = omega arith
-
--- one of two tests holds
-one-of : (a b : Bool) → T (a || b) → T a ⊎ T b
-one-of true b t = _⊎_.inl tt
-one-of false b t = _⊎_.inr t
 
 -- a pixel of a text lies in its box, and is a dot
 module _ (small : Bool) (from p : Point) (text : ℕ) (e : textAt small from text p ≡ true) where
@@ -73,7 +69,7 @@ module _ (small : Bool) (from p : Point) (text : ℕ) (e : textAt small from tex
         ⊎-elim
         (λ h. omega (arith, box .0, inside, leb→le (from .x + cond small 1 2 * (6 * sign + 6)) left h))
         (λ h. true≢false (sym (box .4) ∙ rw (eqb→eq (text / 2 ^ (8 * (4 - sign)) % 256) 255 h) (blank (column % 6) row)))
-        (one-of (leb (from .x + cond small 1 2 * (6 * sign + 6)) left) (eqb (text / 2 ^ (8 * (4 - sign)) % 256) 255) at)
+        (or-yes (leb (from .x + cond small 1 2 * (6 * sign + 6)) left) (eqb (text / 2 ^ (8 * (4 - sign)) % 256) 255) at)
 
     missed : T (misses small from text left right top bottom) → ⊥
     missed n =
@@ -82,11 +78,11 @@ module _ (small : Bool) (from p : Point) (text : ℕ) (e : textAt small from tex
         let w = leb (from .y + cond small 1 2 * 7) top in
         ⊎-elim
         (λ g. ⊎-elim
-        (λ f. ⊎-elim missed-sign (λ h. omega (arith, leb→le right (from .x) h, box .0)) (one-of u v f))
+        (λ f. ⊎-elim missed-sign (λ h. omega (arith, leb→le right (from .x) h, box .0)) (or-yes u v f))
         (λ h. omega (arith, leb→le (from .y + cond small 1 2 * 7) top h, in-dots small (p .y - from .y) 7 (box .3), box .1))
-        (one-of (u || v) w g))
+        (or-yes (u || v) w g))
         (λ h. omega (arith, leb→le bottom (from .y) h, box .1))
-        (one-of (u || v || w) (leb bottom (from .y)) n)
+        (or-yes (u || v || w) (leb bottom (from .y)) n)
 
 -- the label k reaches a part of the picture only if it is one of some
 abbrev reaches : ℕ → ℕ → ℕ → ℕ → ℕ → ℕ → ℕ → ℕ → Bool

@@ -1,5 +1,4 @@
 -- `control::address_increment` meets its contract.
-use mathlib.Core.Path.{refl}
 use borrow.Author.Needs.{needs}
 use Rattle.control.proofs.address_increment.Statement.{statement}
 use Rattle.control.proofs.address_increment.Tie as tie
@@ -8,7 +7,8 @@ pub address-increment-spec : {M : Type 1} → statement M
 address-increment-spec =
     tie.close
     (tie.spec
+    (λ c κs. tt)
     (λ c. search needs)
     (λ c. search needs)
-    (λ c. search needs)
-    (λ c. refl))
+    (λ c. rw (c .increment-code .ensures) (search needs))
+    (λ c. rw (c .increment-code .ensures)))

@@ -10,7 +10,8 @@ pub increment-power-spec : {M : Type 1} → statement M
 increment-power-spec =
     tie.close
     (tie.spec
+    (λ c κs. tt)
     (λ c. search needs)
     (λ c. search needs)
-    (λ c. search needs)
-    (λ c. increment-power-rule (field 12 2 (c .args .control)) (omega arith)))
+    (λ c. rw (c .increment-code .ensures) (search needs))
+    (λ c. rw (c .increment-code .ensures) (increment-power-rule (field 12 2 (c .before .args .control)) (omega arith))))

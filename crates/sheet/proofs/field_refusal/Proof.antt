@@ -16,4 +16,4 @@ field-refusal-spec =
     (λ c κs. tt)
     (λ c κs. tt)
     (λ c κs. tt)
-    (λ c. rw (c .first4 .ensures, c .before .first3 .ensures, c .before .before .first2 .ensures, c .before .before .before .first .ensures, c .before .before .before .before .byte-at3 .ensures .0, c .before .before .before .before .before .byte-at2 .ensures .0, c .before .before .before .before .before .before .byte-at .ensures .0)))
+    (λ c. rw (c .first4 .ensures, c .before .first3 .ensures, c .before .before .first2 .ensures, c .before .before .before .first .ensures, c .before .before .before .before .wide-at3 .ensures .0, c .before .before .before .before .before .wide-at2 .ensures .0, c .before .before .before .before .before .before .wide-at .ensures .0)))

@@ -38,6 +38,6 @@ sheet-values-spec =
     (λ c. search needs)
     (λ c.
     let turn = c .before .before .before .before in
-    let e : 256 * c .before .byte-at .result + c .byte-at2 .result ≡ pair (drop (5 * turn .loop .i) (turn .before .before .args .sheet .now)) 3 = rw (c .byte-at2 .ensures .0, c .before .byte-at .ensures .0, c .before .before .left-from .ensures) in
+    let e : 256 * c .before .wide-at .result + c .wide-at2 .result ≡ pair (drop (5 * turn .loop .i) (turn .before .before .args .sheet .now)) 3 = rw (c .wide-at2 .ensures .0, c .before .wide-at .ensures .0, c .before .before .left-from .ensures) in
     (omega arith, rw e (valued _ _ _ (turn .loop .i) (omega arith) (turn .loop .inv .1))))
     (λ c. let e : c .before .loop .i ≡ 14 = omega arith in rw e at (c .before .loop .inv .1)))

@@ -1,7 +1,7 @@
 -- What writing comes to, for callers: which values are taken, and both round trips. Assumes nothing.
 use Prim.Native.Nat.{ℕ, zero, suc, _≤_}
 use mathlib.Core.Path.{_≡_, refl, _∙_}
-use mathlib.Core.Bool.{Bool, true, false, cond}
+use mathlib.Core.Bool.{false}
 use mathlib.Core.List.{List, [], _∷_, _++_, append-nil}
 use native.Mathlib.Omega.{arith}
 use borrow.Author.Tests.{le-ltb, ltb-false}
@@ -14,7 +14,7 @@ use Rattle.sheet.specs.Reader.{readSheet}
 use Rattle.sheet.proofs.Laws.{encoding-accepted, accepted-encoding}
 use Rattle.sheet.specs.Writer.{writeRefusal, roomWritten}
 use Rattle.sheet.specs.declared.Sheet.{Sheet}
-use Rattle.base.proofs.Bools.{neither-holds}
+use Rattle.base.proofs.Bools.{neither-holds, link-passed}
 
 -- no value is over 65,535
 pub within : (values : List ℕ) → over values ≡ false → (k : ℕ) → getD values k 0 ≤ 65535
@@ -23,14 +23,11 @@ within [] e k = omega arith
 within (value ∷ values) e zero = omega (arith, ltb-false 65535 value (neither-holds (ltb 65535 value) (over values) e .0))
 within (value ∷ values) e (suc k) = within values (neither-holds (ltb 65535 value) (over values) e .1) k
 
-chosen : (a b : Bool) → _≡_ {A = ℕ} (cond a 34 (cond b 35 0)) 0 → (a ≡ false) × (b ≡ false)
-chosen false false e = (refl, refl)
-chosen false true e = absurd (omega (arith, e))
-chosen true b e = absurd (omega (arith, e))
-
 -- a write is accepted only where no value is over and the room is large enough
 pub taken : (values room : List ℕ) → writeRefusal values room ≡ 0 → (over values ≡ false) × (70 ≤ length room)
-taken values room e = let both = chosen (over values) (ltb (length room) 70) e in (both .0, ltb-false _ _ (both .1))
+taken values room e =
+    let small = link-passed (over values) 33 _ e in
+    (small .0, ltb-false _ _ (link-passed (ltb (length room) 70) 34 0 (small .1) .0))
 
 -- ---- the two round trips
 accepted-written : (values room : List ℕ) → over values ≡ false → 70 ≤ length room → roomWritten values room ≡ encoding values ++ drop 70 room

@@ -3,12 +3,11 @@ use Prim.Native.Nat.{ℕ, _+_, _*_, _-_, _^_, _≤_, _<_}
 use mathlib.Core.Bool.{Bool, true, false, cond, _&&_, _||_, or-assoc, or-comm, or-false}
 use mathlib.Core.List.{List, [], _∷_}
 use mathlib.Core.Path.{_≡_, refl, sym, _∙_}
-use native.Mathlib.Numerals.{add-one}
 use native.Mathlib.Omega.{arith}
 use borrow.Author.Tests.{lt-ltb, le-ltb, eq-eqb, ne-eqb, ltb-true, ltb-false}
 use lib.Dec.{ltb, leb, eqb}
 use lib.ListN.{length, getD, drop, drop-of-length-le, List·getD-eq-default}
-use lib.Seq.{drop-cons}
+use Rattle.base.proofs.Lists.{left-from}
 use Rattle.words.specs.Numbers.{digitOf, baseOf, valueFrom, strange, largest, digitsNumber, numberOf}
 use Rattle.words.specs.declared.number.Number.{Number}
 
@@ -38,9 +37,6 @@ pub reaches-first : (hexadecimal : Bool) (text : List ℕ) → Reaches hexadecim
 reaches-first hexadecimal text = record { goes-on = λ h. refl; too-large = λ h. absurd (omega arith); small = omega arith }
 
 module _ (hexadecimal : Bool) (text : List ℕ) (i : ℕ) (h : i < length text) where
-  here : drop i text ≡ getD text i 0 ∷ drop (i + 1) text
-  here = rw (add-one) (drop-cons text i 0 h)
-
   pub reaches-next : (value digit next : ℕ) → digit ≡ digitOf (getD text i 0) → next ≡ cond (ltb largest value) value (value * baseOf hexadecimal + digit) → next < 2 ^ 40 → Reaches hexadecimal text i value → Reaches hexadecimal text (i + 1) next
   unfolding valueFrom
   reaches-next value digit next ed en bound k = go (ltb largest value) refl
@@ -53,12 +49,12 @@ module _ (hexadecimal : Bool) (text : List ℕ) (i : ℕ) (h : i < length text) 
       go false e =
           let more : next ≡ value * baseOf hexadecimal + digitOf (getD text i 0) = rw (en, e, ed) refl in
           let under = ltb-false largest value e in
-          let on : valueFrom hexadecimal next (drop (i + 1) text) ≡ valueFrom hexadecimal 0 text = rw more (rw here at (k .goes-on under)) in
+          let on : valueFrom hexadecimal next (drop (i + 1) text) ≡ valueFrom hexadecimal 0 text = rw more (rw (left-from text i h) at (k .goes-on under)) in
           record { goes-on = λ l. on; too-large = λ l. omega (arith, on, value-grows hexadecimal next (drop (i + 1) text)); small = bound }
 
   pub strange-next : (before : Bool) (base digit : ℕ) → base ≡ baseOf hexadecimal → digit ≡ digitOf (getD text i 0) → (before || strange hexadecimal (drop i text)) ≡ strange hexadecimal text → ((before || leb base digit) || strange hexadecimal (drop (i + 1) text)) ≡ strange hexadecimal text
   unfolding strange
-  strange-next before base digit eb ed e = or-assoc before (leb base digit) _ ∙ rw (eb, ed) (rw here at e)
+  strange-next before base digit eb ed e = or-assoc before (leb base digit) _ ∙ rw (eb, ed) (rw (left-from text i h) at e)
 
 -- at the end of the digits: what each way out gives
 module _ (hexadecimal : Bool) (text : List ℕ) (i value : ℕ) (bad : Bool) (over : length text ≤ i) (k : Reaches hexadecimal text i value) (s : (bad || strange hexadecimal (drop i text)) ≡ strange hexadecimal text) where

@@ -1,4 +1,5 @@
 -- `machine::checksum::checksum_word` meets its contract: the table holds the place values of a sum's bytes.
+use mathlib.Core.Path.{_∙_}
 use native.Mathlib.Omega.{arith}
 use borrow.Author.Needs.{needs}
 use Rattle.machine.proofs.checksum.Cases.{byte-positive, word-within, word-past}
@@ -17,6 +18,6 @@ checksum-word-spec =
     (λ c. omega arith)
     (λ c. omega arith)
     (λ c. omega arith)
-    (λ c. omega arith)
-    (λ c. word-within _ _ (c .before .before .before .if1 .taken))
+    (λ c κs. tt)
+    (λ c. c .join .ensures ∙ word-within _ _ (c .before .before .before .before .if1 .taken))
     (λ c. word-past _ _ (c .if1 .left)))
