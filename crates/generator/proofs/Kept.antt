@@ -68,7 +68,7 @@ module _ (s : Screen) (h u : ℕ) where
     unfolding closes
     frame-closes q = simp (le-leb (halvesInFrame s) (h + 1) q, le-leb (halfTicks s) (u + 1) p)
 
-  line-open : h + 1 < halvesInFrame s → closes s h u ≡ false
+  pub line-open : h + 1 < halvesInFrame s → closes s h u ≡ false
   unfolding closes
   line-open q = simp (lt-leb (halvesInFrame s) (h + 1) q)
 

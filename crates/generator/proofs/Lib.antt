@@ -5,3 +5,4 @@ pub mod FirstVisible
 pub mod Puts
 pub mod Bare
 pub mod Kept
+pub mod Dark

@@ -22,7 +22,7 @@ use Rattle.pixel.specs.declared.Spot.{Spot}
 use Rattle.pixel.specs.Sums.{clearedAt, summedWhere}
 use Rattle.pixel.specs.declared.Sums.{Sums}
 use Rattle.memory.proofs.Laws.{ends-beyond-later}
-use Rattle.generator.specs.Rows.{screen, visibleAt, shows, heldAddress, place}
+use Rattle.generator.specs.Rows.{screen, visibleAt, shows, heldAddress, place, asks}
 use Rattle.generator.specs.Tick.{dotOf, dots, refuses20, cleared, sumsAfter, seenAfter, stepWith, signalsWith, signals, tickRefusal, tickOf}
 use Rattle.generator.specs.Stand.{Runs, Stands}
 use Rattle.generator.specs.declared.Generator.{Generator}
@@ -52,28 +52,46 @@ moment-opens : (r : Registers) (g : Generator) (t : Stand) → Stands r g t → 
 unfolding momentOf
 moment-opens r g t st = ap (λ (x : Moment). x .opens) (st .moment-is)
 
+-- a tick that shows is visible
+shown-visible : (r : Registers) (g : Generator) (t : Stand) → Stands r g t → t .shows ≡ true → visibleAt r g ≡ true
+unfolding shows
+shown-visible r g t st on = both-hold (visibleAt r g) (not (forcedBlank (r .control))) (sym (st .shows-is) ∙ on) .0
+
 module _ (r : Registers) (m : List ℕ) (g : Generator) (t : Stand) (st : Stands r g t) where
-  place-at : (k : ℕ) → place r (heldAddress r g) (g .seen .0) k ≡ t .place + k
-  place-at k = place-run r (heldAddress r g) (g .seen .0) k ∙ rw (← (st .place-is))
+  place-at : t .shows ≡ true → (k : ℕ) → place r (heldAddress r g) (g .seen .0) k ≡ t .place + k
+  place-at s k = place-run r (heldAddress r g) (g .seen .0) k ∙ rw (← (st .place-is (shown-visible r g t st s)))
+
+  refuse-lit : t .shows ≡ true → (transferring (r .control) && endsBeyond (pixelBits (r .control)) m (t .place + 3)) ≡ refuses20 r m g
+  unfolding refuses20
+  refuse-lit s =
+      simp (← (st .shows-is), s)
+      (rw (← (place-at s 3))
+      (sym (rw (some-last (λ k. endsBeyond (pixelBits (r .control)) m (place r (heldAddress r g) (g .seen .0) k)) (λ k e. later k e) 3))))
+    where
+      later : (k : ℕ) → endsBeyond (pixelBits (r .control)) m (place r (heldAddress r g) (g .seen .0) k) ≡ true → endsBeyond (pixelBits (r .control)) m (place r (heldAddress r g) (g .seen .0) (suc k)) ≡ true
+      later k e = ends-beyond-later (pixelBits (r .control)) m _ _ (omega (arith, place-at s k, place-at s (suc k))) e
 
   pub refuse-by : (far on : Bool) → far ≡ endsBeyond (pixelBits (r .control)) m (t .place + 3) → on ≡ transferring (r .control) → (t .shows && (on && far)) ≡ refuses20 r m g
   unfolding refuses20
-  refuse-by far on ef eo =
-      rw (st .shows-is, ef, eo, ← (place-at 3))
-      (sym (rw (some-last (λ k. endsBeyond (pixelBits (r .control)) m (place r (heldAddress r g) (g .seen .0) k)) (λ k e. later k e) 3)))
+  refuse-by far on ef eo = go (t .shows) refl
     where
-      later : (k : ℕ) → endsBeyond (pixelBits (r .control)) m (place r (heldAddress r g) (g .seen .0) k) ≡ true → endsBeyond (pixelBits (r .control)) m (place r (heldAddress r g) (g .seen .0) (suc k)) ≡ true
-      later k e = ends-beyond-later (pixelBits (r .control)) m _ _ (omega (arith, place-at k, place-at (suc k))) e
+      go : (b : Bool) → t .shows ≡ b → (b && (on && far)) ≡ refuses20 r m g
+      go true s = rw (ef, eo) (refuse-lit s)
+      go false s = simp (← (st .shows-is), s)
+
+  -- a tick that shows and is not refused reads no place beyond the memory
+  pub held-by : t .shows ≡ true → refuses20 r m g ≡ false → (transferring (r .control) && endsBeyond (pixelBits (r .control)) m (t .place + 3)) ≡ false
+  held-by s e = refuse-lit s ∙ e
 
   -- the four pixels of a tick whose first one is spotted: under the cursor, and away from it
   pub dots-lit : t .shows ≡ true → (four : List Dot) → four ≡ run (dotOf r m (heldAddress r g) (g .seen .0)) 0 4 → four ≡ dots r m g
   unfolding dots
   dots-lit s four e = e ∙ simp (← (st .shows-is), s)
 
-  module _ (at : Spot) (spot : at ≡ record { place = t .place; x = 4 * (g .seen .0 % t .screen .display .0); y = g .seen .0 / t .screen .display .0 }) where
+  module _ (on : t .shows ≡ true) (at : Spot) (spot : at ≡ record { place = t .place; x = 4 * (g .seen .0 % t .screen .display .0); y = g .seen .0 / t .screen .display .0 }) where
     dot-by : (k : ℕ) → dotAt r (r .position) m (at .place + k) (at .x + k) (at .y) ≡ dotOf r m (heldAddress r g) (g .seen .0) k
     unfolding dotOf
-    dot-by k = rw (spot, place-at k, st .screen-is)
+    dot-by k = rw (spot, place-at on k, st .screen-is)
 
     pub covered-by : run (λ k. dotAt r (r .position) m (at .place + k) (at .x + k) (at .y)) 0 4 ≡ run (dotOf r m (heldAddress r g) (g .seen .0)) 0 4
     covered-by = run-same _ _ 0 0 4 (λ k l. dot-by (0 + k))
@@ -92,12 +110,21 @@ module _ (r : Registers) (m : List ℕ) (g : Generator) (t : Stand) (st : Stands
   unfolding sumsAfter cleared
   sums-by four e out eo = eo ∙ rw (e, st .shows-is, moment-opens r g t st)
 
+-- what is asked from a tick on: a visible one asks anew
+asked-by : (r : Registers) (g : Generator) (t : Stand) → Stands r g t → cond (t .moment .visible) (t .asking) (g .asked) ≡ cond (t .moment .visible) (asks (r .control) (screen r) (g .seen .0)) (g .asked)
+unfolding visibleAt momentOf
+asked-by r g t st = go (t .moment .visible) refl
+  where
+    go : (b : Bool) → t .moment .visible ≡ b → cond b (t .asking) (g .asked) ≡ cond b (asks (r .control) (screen r) (g .seen .0)) (g .asked)
+    go true v = st .asking-is (sym (ap (λ (x : Moment). x .visible) (st .moment-is)) ∙ v)
+    go false v = refl
+
 -- the generator after the tick, from what its parts answer
 pub next-by : (r : Registers) (g : Generator) (t : Stand) → Stands r g t → (sums : Sums) (asked : Bool) (more seen : ℕ) → more ≡ cond (t .moment .visible) (g .seen .0 + 1) (g .seen .0) →
     seen ≡ cond (t .moment .closes) 0 more → asked ≡ cond (t .moment .visible) (t .asking) (g .asked) →
     _≡_ {A = Generator} (record { half = record { 0 = t .moment .half }; at = record { 0 = t .moment .at }; seen = record { 0 = seen }; held = t .held; asked = asked; sums = sums }) (stepWith r g sums)
 unfolding stepWith seenAfter visibleAt momentOf
-next-by r g t st sums asked more seen em es ek = rw (es, ek, em, st .asking-is, st .moment-is, st .held-is)
+next-by r g t st sums asked more seen em es ek = rw (es, ek, em, asked-by r g t st, st .moment-is, st .held-is)
 
 -- every signal, from what its parts answer
 pub signals-by : (r : Registers) (g : Generator) (t : Stand) → Stands r g t → (four : List Dot) (on : Bool) (address : ℕ) → on ≡ transferring (r .control) → address ≡ cond (on && t .transfer) (t .held) 0 →
@@ -120,21 +147,17 @@ module _ (r : Registers) (g : Generator) (k : Runs r g) (s : Screen) (e : s ≡ 
 
 -- the spot that a visible tick's moment names, in terms of the ticks counted
 module _ (r : Registers) (g : Generator) (k : Runs r g) (t : Stand) (st : Stands r g t) (on : t .shows ≡ true) where
-  shown : visible (screen r) (g .half .0) (g .at .0) ≡ true
-  unfolding shows visibleAt
-  shown = both-hold (visibleAt r g) (not (forcedBlank (r .control))) (sym (st .shows-is) ∙ on) .0
-
   pub spot-column : t .moment .column ≡ g .seen .0 % t .screen .display .0
-  unfolding momentOf
+  unfolding momentOf visibleAt
   spot-column =
       ap (λ (x : Moment). x .column) (st .moment-is)
-      ∙ rw (st .screen-is, k .placed .seen-is) (column-by (r .control) (screen r) (k .accepted) (g .half .0) (g .at .0) (k .placed .at-in) shown)
+      ∙ rw (st .screen-is, k .placed .seen-is) (column-by (r .control) (screen r) (k .accepted) (g .half .0) (g .at .0) (k .placed .at-in) (shown-visible r g t st on))
 
   pub spot-line : t .moment .line ≡ g .seen .0 / t .screen .display .0
-  unfolding momentOf
+  unfolding momentOf visibleAt
   spot-line =
       ap (λ (x : Moment). x .line) (st .moment-is)
-      ∙ rw (st .screen-is, k .placed .seen-is) (line-by (r .control) (screen r) (k .accepted) (g .half .0) (g .at .0) (k .placed .at-in) shown)
+      ∙ rw (st .screen-is, k .placed .seen-is) (line-by (r .control) (screen r) (k .accepted) (g .half .0) (g .at .0) (k .placed .at-in) (shown-visible r g t st on))
 
   pub spot-by : (at : Spot) → at ≡ record { place = t .place; x = 4 * t .moment .column; y = t .moment .line } →
       at ≡ record { place = t .place; x = 4 * (g .seen .0 % t .screen .display .0); y = g .seen .0 / t .screen .display .0 }

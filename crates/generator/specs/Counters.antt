@@ -1,6 +1,7 @@
--- The generator record at its beginning (01, "Starting a screen"), and whether its next tick is out of flyback (01, "Refusal numbers", 5).
--- Assumes nothing.
+-- The generator record at its beginning (01, "Starting a screen"), whether its next tick is a frame's first (01, "Refusal numbers", 22), and
+-- whether it is out of flyback (01, "Refusal numbers", 5). Assumes nothing.
 use mathlib.Core.Bool.{Bool, false, _&&_}
+use lib.Dec.{eqb}
 use Rattle.control.specs.Control.{running}
 use Rattle.registers.specs.declared.Registers.{Registers}
 use Rattle.pixel.specs.Sums.{none}
@@ -19,6 +20,10 @@ fresh =
       asked = false;
       sums = none;
     }
+
+-- before the first tick of a frame: half line 0, tick 0
+abbrev pub isStart : Generator → Bool
+isStart g = eqb (g .half .0) 0 && eqb (g .at .0) 0
 
 -- running, and the next tick not in flyback: it lies in VDisplay
 unfoldable pub displaying : Registers → Generator → Bool

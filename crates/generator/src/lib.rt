@@ -8,7 +8,7 @@ ghost use Rattle.registers.specs.File.{fileOf, bare};
 ghost use Rattle.generator.specs.Sound.{Sound};
 ghost use Rattle.generator.specs.Stand.{Runs};
 ghost use Rattle.generator.specs.Tick.{tickOf};
-ghost use Rattle.generator.specs.Counters.{displaying, fresh};
+ghost use Rattle.generator.specs.Counters.{displaying, fresh, isStart};
 ghost use Rattle.generator.specs.Rows.{topUsed, rowDivisor};
 use pixel::Sums;
 use registers::Numbers;
@@ -42,6 +42,13 @@ impl Generator {
             asked: false,
         }
     }
+}
+
+// A generator that is before the first tick of a frame.
+pub fn is_start(g: Generator) -> bool
+    ensures test { λ b. ⌜ b ≡ isStart g ⌝ }
+{
+    (g.half.0 == 0) & (g.at.0 == 0)
 }
 
 // The next tick of a running generator lies in VDisplay, out of flyback.
@@ -79,6 +86,13 @@ pub struct Ticked {
     pub next: Generator,
 }
 
+// Ticks one after another, as a caller does them: how many were done, the refusal that ended them or 0, and the generator then.
+pub struct Went {
+    pub done: u32,
+    pub refusal: u32,
+    pub next: Generator,
+}
+
 // A tick of a running generator.
 fn running_tick(
     n: Numbers,
@@ -93,9 +107,6 @@ fn running_tick(
         t ≡ tickOf (fileOf n (now (colours .entry)) (now (palette .entry)) (now (store .entry))) (now (memory .entry)) g ⌝ }
 {
     let t = stand::stand_of(n, g);
-    let dots = output::dots_of(n, colours, palette, store, g, t, memory);
-    let sums = g.sums.tallied(t.moment.opens, t.shows, dots);
-    let next = output::next_of(n, g, t, sums);
     let refused = output::is_refused(n, g, t, memory);
     if refused {
         return Ticked {
@@ -104,6 +115,9 @@ fn running_tick(
             next: g,
         };
     }
+    let dots = output::dots_of(n, colours, palette, store, g, t, memory);
+    let sums = g.sums.tallied(t.moment.opens, t.shows, dots);
+    let next = output::next_of(n, g, t, sums);
     let signals = output::signals_of(n, g, t, dots);
     Ticked {
         refusal: 0,

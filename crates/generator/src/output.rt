@@ -2,7 +2,10 @@
 ghost use mathlib.Core.Path.{_≡_};
 ghost use Prim.Native.Nat.{_+_, _*_, _^_, _<_};
 ghost use Rattle.registers.specs.File.{fileOf, bare};
+ghost use mathlib.Core.Bool.{true, false, _&&_};
 ghost use Rattle.base.specs.Count.{run};
+ghost use Rattle.control.specs.Control.{transferring, depth, pixelBits};
+ghost use Rattle.memory.specs.Memory.{endsBeyond, pixelShown};
 ghost use Rattle.pixel.specs.Dot.{dotBelow, dotAt};
 ghost use Rattle.generator.specs.Tick.{dots, refuses20, stepWith, signalsWith};
 ghost use Rattle.generator.specs.Stand.{Runs, Stands};
@@ -82,19 +85,67 @@ fn covered(
     [a, b, c, d]
 }
 
-// Four that it leaves alone.
-fn uncovered(n: Numbers, palette: &[u32; 256], memory: &[u8], place: u64) -> [Dot; 4]
-    requires { ⌜ place < 2 ^ 60 ⌝ }
-    ensures dots { λ d. ⌜ d ≡ run (λ k. dotBelow n (now (palette .entry)) (now (memory .entry)) (place + k)) 0 4 ⌝ }
+// A pixel that the memory holds.
+fn held_pixel(control: u32, memory: &[u8], place: u64) -> u8
+    requires { ⌜ transferring control ≡ true ⌝ }
+    requires { ⌜ endsBeyond (pixelBits control) (now memory) place ≡ false ⌝ }
+    ensures pixel { λ p. ⌜ p ≡ pixelShown control (now (memory .entry)) place ⌝ }
 {
-    let a = pixel::dot_below(n, palette, memory, place + 0);
-    let b = pixel::dot_below(n, palette, memory, place + 1);
-    let c = pixel::dot_below(n, palette, memory, place + 2);
-    let d = pixel::dot_below(n, palette, memory, place + 3);
-    [a, b, c, d]
+    let index = memory::byte_of(control, place) as usize;
+    memory::pixel_in(control, memory[index], place)
 }
 
-// The four pixels: where the cursor is not near, nothing of it is asked.
+// The same where a pixel is a byte.
+fn held_byte(control: u32, memory: &[u8], place: u64) -> u8
+    requires { ⌜ (transferring control ≡ true) × (depth control ≡ 3) ⌝ }
+    requires { ⌜ endsBeyond (pixelBits control) (now memory) place ≡ false ⌝ }
+    ensures pixel { λ p. ⌜ p ≡ pixelShown control (now (memory .entry)) place ⌝ }
+{
+    memory[place as usize]
+}
+
+// Four pixels in a row of a tick that is not refused: none ends beyond the memory, which is not asked again.
+fn fetched(control: u32, memory: &[u8], place: u64) -> [u8; 4]
+    requires { ⌜ place < 2 ^ 60 ⌝ }
+    requires { ⌜ (transferring control && endsBeyond (pixelBits control) (now memory) (place + 3)) ≡ false ⌝ }
+    ensures pixels { λ p. ⌜ p ≡ run (λ k. pixelShown control (now (memory .entry)) (place + k)) 0 4 ⌝ }
+{
+    let on = control::is_transferring(control);
+    if on {
+        if control::depth_code(control) == 3 {
+            return [
+                held_byte(control, memory, place),
+                held_byte(control, memory, place + 1),
+                held_byte(control, memory, place + 2),
+                held_byte(control, memory, place + 3),
+            ];
+        }
+        return [
+            held_pixel(control, memory, place),
+            held_pixel(control, memory, place + 1),
+            held_pixel(control, memory, place + 2),
+            held_pixel(control, memory, place + 3),
+        ];
+    }
+    [0, 0, 0, 0]
+}
+
+// Four that the cursor leaves alone.
+fn uncovered(n: Numbers, palette: &[u32; 256], memory: &[u8], place: u64) -> [Dot; 4]
+    requires { ⌜ place < 2 ^ 60 ⌝ }
+    requires { ⌜ (transferring (n .control) && endsBeyond (pixelBits (n .control)) (now memory) (place + 3)) ≡ false ⌝ }
+    ensures dots { λ d. ⌜ d ≡ run (λ k. dotBelow n (now (palette .entry)) (now (memory .entry)) (place + k)) 0 4 ⌝ }
+{
+    let four = fetched(n.control, memory, place);
+    [
+        pixel::coloured(n, palette, four[0]),
+        pixel::coloured(n, palette, four[1]),
+        pixel::coloured(n, palette, four[2]),
+        pixel::coloured(n, palette, four[3]),
+    ]
+}
+
+// The four pixels of a tick that is not refused: where the cursor is not near, nothing of it is asked.
 pub fn dots_of(
     n: Numbers,
     colours: &[u32; 3],
@@ -106,6 +157,7 @@ pub fn dots_of(
 ) -> [Dot; 4]
     requires { ⌜ Runs (bare n) g ⌝ }
     requires { ⌜ Stands (bare n) g t ⌝ }
+    requires { ⌜ refuses20 (bare n) (now memory) g ≡ false ⌝ }
     ensures dots { λ d. ⌜
         d ≡ dots (fileOf n (now (colours .entry)) (now (palette .entry)) (now (store .entry))) (now (memory .entry)) g ⌝ }
 {

@@ -1,16 +1,16 @@
 // Rows (01, "Rows and pixels"): where a tick stands in its row, the address held, and the request.
 ghost use mathlib.Core.Path.{_≡_};
-ghost use mathlib.Core.Bool.{cond};
+ghost use mathlib.Core.Bool.{true, false, cond};
 ghost use Prim.Native.Nat.{_+_, _*_, _/_, _%_, _^_, _≤_, _<_};
 ghost use Rattle.base.specs.Sum.{rolled};
-ghost use Rattle.control.specs.Control.{transferring};
+ghost use Rattle.control.specs.Control.{plain, transferring, increment};
 ghost use Rattle.registers.specs.File.{bare};
 ghost use Rattle.units.specs.Parameters.{displayFrom, halvesToVDisplay};
 ghost use Rattle.screen.specs.Limits.{Bounded};
 ghost use Rattle.screen.specs.Totals.{frameVisible};
 ghost use Rattle.request.specs.Request.{requested};
-ghost use Rattle.lines.specs.Lines.{tickNumber};
-ghost use Rattle.generator.specs.Rows.{leads};
+ghost use Rattle.lines.specs.Lines.{tickNumber, momentOf};
+ghost use Rattle.generator.specs.Rows.{screen, taken, leads};
 ghost use Rattle.generator.specs.Sound.{InFrame};
 ghost use Rattle.generator.specs.Stand.{Runs, Stands};
 use crate::Generator;
@@ -32,12 +32,14 @@ pub struct Stand {
     pub place: u64,
 }
 
-// The address held from this tick on: `taken` is top at the first VDisplay tick, and one increment further at a later transfer.
-fn held_of(taken: u32, steps: bool, increment: u32) -> u32
-    ensures address { λ a. ⌜ a ≡ cond steps (rolled taken increment) taken ⌝ }
+// The address held from a tick on: one increment further where it steps on to a row that is not the frame's first.
+fn held_of(control: u32, address: u32, steps: bool) -> u32
+    ensures address { λ a. ⌜ a ≡ cond steps (rolled address (increment control)) address ⌝ }
 {
-    let next = base::rolled_sum(taken, increment);
-    base::first(steps, next, taken)
+    if steps {
+        return base::rolled_sum(address, control::address_increment(control));
+    }
+    address
 }
 
 // The place of a tick's first pixel, `rest` ticks into its row; its row's number is the address over a power of two.
@@ -60,14 +62,14 @@ fn first_visible(s: Screen) -> u64
     start * (s.linetime.0 / 2) + from
 }
 
-// The request at a tick of a screen, from what a visible one asks. It leads in the TransferDelay ticks just before the first visible one.
-fn is_request(control: u32, g: Generator, s: Screen, visible: bool, asks: bool) -> bool
+// The request at a tick that is not visible. It leads in the TransferDelay ticks just before the first visible one.
+fn is_request(control: u32, g: Generator, s: Screen) -> bool
     requires { ⌜ InFrame control s (g .half .0) (g .at .0) ⌝ }
     ensures test { λ b. ⌜
         b ≡ requested (record {
           on = transferring control;
-          visible = visible;
-          asks = asks;
+          visible = false;
+          asks = false;
           leads = leads s (tickNumber s (g .half .0) (g .at .0));
           seen = g .seen .0;
           all = frameVisible s;
@@ -75,17 +77,14 @@ fn is_request(control: u32, g: Generator, s: Screen, visible: bool, asks: bool) 
         }) ⌝ }
 {
     let on = control::is_transferring(control);
-    if visible {
-        return on & asks;
-    }
     let number = g.half.0 * (s.linetime.0 / 2) + g.at.0;
     let reach = number + s.transferdelay.0;
     let all = s.display.0 * units::displayed_lines(s);
     let first = first_visible(s);
     request::is_requested(Known {
         on,
-        visible,
-        asks,
+        visible: false,
+        asks: false,
         leads: (number < first) & (first <= reach),
         seen: g.seen.0,
         all,
@@ -93,7 +92,37 @@ fn is_request(control: u32, g: Generator, s: Screen, visible: bool, asks: bool) 
     })
 }
 
-// Where the next tick of a running generator stands.
+// Where a visible tick stands in its row, from the address held until then.
+fn in_row(n: Numbers, g: Generator, s: Screen, moment: Moment, address: u32) -> Stand
+    requires { ⌜ Runs (bare n) g ⌝ }
+    requires { ⌜ s ≡ screen (bare n) ⌝ }
+    requires { ⌜ moment ≡ momentOf (screen (bare n)) (plain (n .control)) (g .half .0) (g .at .0) ⌝ }
+    requires { ⌜ (moment .visible ≡ true) × (address ≡ taken (bare n) g) ⌝ }
+    ensures stands { λ t. ⌜ Stands (bare n) g t ⌝ }
+{
+    let seen = g.seen.0;
+    let row = s.meminit.0 + s.transferdelay.0;
+    let rest = seen % row;
+    let transfer = rest == 0;
+    let held = held_of(n.control, address, transfer & (0 < seen));
+    let power = crate::row_power(n);
+    let place = place_of(held, power, row, rest);
+    let on = control::is_transferring(n.control);
+    let asking = request::is_asking(on, s.meminit.0, rest);
+    let blank = control::is_forced_blank(n.control);
+    Stand {
+        screen: s,
+        moment,
+        transfer,
+        held,
+        asking,
+        request: on & asking,
+        shows: !blank,
+        place,
+    }
+}
+
+// Where the next tick of a running generator stands: between the lines there is no row to stand in.
 pub fn stand_of(n: Numbers, g: Generator) -> Stand
     requires { ⌜ Runs (bare n) g ⌝ }
     ensures stands { λ t. ⌜ Stands (bare n) g t ⌝ }
@@ -101,31 +130,23 @@ pub fn stand_of(n: Numbers, g: Generator) -> Stand
     let params = n.params;
     let half = g.half.0;
     let at = g.at.0;
-    let seen = g.seen.0;
     let s = units::screen_of(params);
-    let row = s.meminit.0 + s.transferdelay.0;
-    let rest = seen % row;
     let plain = control::is_plain(n.control);
     let moment = lines::moment_of(params, plain, half as u32, at as u32);
-    let transfer = moment.visible & (rest == 0);
-    let increment = control::address_increment(n.control);
     let top = crate::top_used(n);
     let taken = base::first(moment.opens, top, g.held);
-    let held = held_of(taken, transfer & (0 < seen), increment);
-    let blank = control::is_forced_blank(n.control);
-    let power = crate::row_power(n);
-    let place = place_of(held, power, row, rest);
-    let on = control::is_transferring(n.control);
-    let asking = request::is_asking(on, s.meminit.0, rest);
-    let request = is_request(n.control, g, s, moment.visible, asking);
+    if moment.visible {
+        return in_row(n, g, s, moment, taken);
+    }
+    let request = is_request(n.control, g, s);
     Stand {
         screen: s,
         moment,
-        transfer,
-        held,
-        asking,
+        transfer: false,
+        held: taken,
+        asking: false,
         request,
-        shows: moment.visible & !blank,
-        place,
+        shows: false,
+        place: 0,
     }
 }

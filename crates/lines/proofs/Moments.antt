@@ -1,17 +1,18 @@
 -- What the code finds of a place is its moment, and a screen that was read from registers has counts of 32 bits. Assumes nothing.
-use Prim.Native.Nat.{ℕ, _+_, _-_, _/_, _%_, _^_, _<_}
+use Prim.Native.Nat.{ℕ, _+_, _-_, _*_, _/_, _%_, _^_, _<_, _≤_}
 use mathlib.Core.Bool.{Bool, true, false, cond, _&&_}
 use mathlib.Core.List.{List}
-use mathlib.Core.Path.{_≡_, refl}
+use mathlib.Core.Path.{_≡_, refl, subst}
 use native.Mathlib.Omega.{arith}
-use borrow.Author.Tests.{ltb-true, ltb-false, le-leb, lt-leb}
+use borrow.Author.Tests.{ltb-true, ltb-false, le-ltb, le-leb, lt-leb}
 use mir.Syntax.{w32}
 use mir.Val.{Fits}
 use lib.Dec.{ltb, leb, eqb}
 use lib.ListN.{getD}
 use Rattle.units.specs.Parameters.{screenOf, halfTicks, displayFrom, halvesToVBlank, halvesToVDisplay, halvesInFrame}
 use Rattle.units.specs.declared.Screen.{Screen}
-use Rattle.lines.specs.Lines.{period, isVSync, isVDisplay, lineFrom, lineOf, secondHalf, inLine, visible, columnOf, linesAbove, lowIn, opens, closes, nextHalf, nextAt, momentOf}
+use Rattle.lines.specs.Lines.{period, endsOf, isVSync, isVDisplay, lineFrom, lineOf, secondHalf, inLine, visible, columnOf, linesAbove, lowIn, opens, closes, nextHalf, nextAt, momentOf}
+use Rattle.lines.specs.declared.Ends.{Ends}
 use Rattle.lines.specs.declared.Period.{Period}
 use Rattle.lines.specs.declared.Period.the-variants.{PreEqualise, VSync, PostEqualise, VBlank, VDisplay}
 
@@ -73,15 +74,29 @@ module _ (s : Screen) (half : ℕ) where
       go false ea false eb false ec true ed = lt-leb (halvesToVDisplay s) half (ltb-true _ _ ed)
       go false ea false eb false ec false ed = le-leb (halvesToVDisplay s) half (ltb-false _ _ ed)
 
+  -- from the code's ends: the period, and in full lines the sync, whatever the period
+  module _ (ends : Ends) (ends-are : ends ≡ endsOf s) where
+    pub by-ends : (p : Period) → p ≡ cond (ltb half (ends .pre)) PreEqualise (cond (ltb half (ends .sync)) VSync (cond (ltb half (ends .post)) PostEqualise (cond (ltb half (ends .blank)) VBlank VDisplay))) → p ≡ period s half
+    unfolding period
+    by-ends p e = rw (e, ends-are)
+
+    pub full-low : ends .post ≤ half → (plain : Bool) (halfsync broadpulse at tick : ℕ) → ltb tick (2 * halfsync) ≡ lowIn plain halfsync broadpulse (period s half) at tick
+    unfolding period
+    full-low e plain halfsync broadpulse at tick =
+        let le : halvesToVBlank s ≤ half = subst (λ (ends : Ends). ends .post ≤ half) ends-are e in
+        rw (le-ltb half (s .vpreequalise .0) (omega arith), le-ltb half (s .vpreequalise .0 + s .vsync .0) (omega arith), le-ltb half (halvesToVBlank s) le) (go (ltb half (halvesToVDisplay s)))
+      where
+        go : (d : Bool) → ltb tick (2 * halfsync) ≡ lowIn plain halfsync broadpulse (cond d VBlank VDisplay) at tick
+        go true = refl
+        go false = refl
+
 module _ (s : Screen) (plain : Bool) (half at : ℕ)
     (from : ℕ) (from-is : from ≡ lineFrom s)
     (tick : ℕ) (tick-is : tick ≡ cond (eqb ((half + from) % 2) 1) (halfTicks s + at) at)
     (line : ℕ) (line-is : line ≡ (half + from) / 2 - (halvesToVDisplay s + from) / 2)
     (column : ℕ) (column-is : column ≡ tick - displayFrom s)
-    (p : Period)
-    (period-is : p ≡ cond (ltb half (s .vpreequalise .0)) PreEqualise (cond (ltb half (s .vpreequalise .0 + s .vsync .0)) VSync (cond (ltb half (halvesToVBlank s)) PostEqualise (cond (ltb half (halvesToVDisplay s)) VBlank VDisplay))))
     (next : ℕ) (next-is : next ≡ cond (ltb (half + 1) (halvesInFrame s)) (half + 1) 0)
-    (low : Bool) (low-is : low ≡ lowIn plain (s .halfsync .0) (s .broadpulse .0) p at tick)
+    (low : Bool) (low-is : low ≡ lowIn plain (s .halfsync .0) (s .broadpulse .0) (period s half) at tick)
     (later after : ℕ) (later-is : later ≡ cond (ltb (at + 1) (halfTicks s)) half next) (after-is : after ≡ cond (ltb (at + 1) (halfTicks s)) (at + 1) 0) where
   pub moment-by : (params : List ℕ) → s ≡ screenOf params → record {
     vsyncing = leb (s .vpreequalise .0) half && ltb half (s .vpreequalise .0 + s .vsync .0);
@@ -95,5 +110,5 @@ module _ (s : Screen) (plain : Bool) (half at : ℕ)
     half = later;
     at = after;
   } ≡ momentOf (screenOf params) plain half at
-  unfolding period lineOf secondHalf inLine visible columnOf linesAbove opens closes nextHalf nextAt momentOf
-  moment-by params e = rw (after-is, later-is, low-is, next-is, in-vsync s half, in-vdisplay s half, period-is, column-is, line-is, tick-is, from-is, e)
+  unfolding lineOf secondHalf inLine visible columnOf linesAbove opens closes nextHalf nextAt momentOf
+  moment-by params e = rw (after-is, later-is, low-is, next-is, in-vsync s half, in-vdisplay s half, column-is, line-is, tick-is, from-is, e)

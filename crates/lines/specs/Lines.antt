@@ -6,6 +6,7 @@ use lib.Dec.{ltb, leb, eqb}
 use Rattle.base.specs.Count.{count}
 use Rattle.units.specs.Parameters.{halfTicks, displayFrom, halvesToVBlank, halvesToVDisplay, halvesInFrame}
 use Rattle.units.specs.declared.Screen.{Screen}
+use Rattle.lines.specs.declared.Ends.{Ends}
 use Rattle.lines.specs.declared.Period.{Period}
 use Rattle.lines.specs.declared.Moment.{Moment}
 use Rattle.lines.specs.declared.Period.the-variants.{PreEqualise, VSync, PostEqualise, VBlank, VDisplay}
@@ -18,6 +19,10 @@ period s half =
     (cond (ltb half (halvesToVBlank s)) PostEqualise
     (cond (ltb half (halvesToVDisplay s)) VBlank
     VDisplay)))
+
+-- the half lines before the end of each period but the last, as the code has them
+abbrev pub endsOf : Screen → Ends
+endsOf s = record { pre = s .vpreequalise .0; sync = s .vpreequalise .0 + s .vsync .0; post = halvesToVBlank s; blank = halvesToVDisplay s }
 
 abbrev pub isVSync : Period → Bool
 isVSync PreEqualise = false

@@ -4,8 +4,9 @@ ghost use mathlib.Core.Bool.{cond};
 ghost use Prim.Native.Nat.{_-_, _<_};
 ghost use lib.Dec.{ltb};
 ghost use Rattle.units.specs.Parameters.{screenOf};
-ghost use Rattle.lines.specs.Lines.{period, isVDisplay, lowIn, momentOf};
+ghost use Rattle.lines.specs.Lines.{period, isVDisplay, lowIn, endsOf, momentOf};
 ghost use Rattle.lines.specs.declared.Period.the-variants.{PreEqualise, VSync, PostEqualise, VBlank, VDisplay};
+use units::Screen;
 
 // The five periods, in frame order.
 pub enum Period {
@@ -31,6 +32,14 @@ pub struct Moment {
     pub at: u64,
 }
 
+// The half lines before the end of each period but the last.
+struct Ends {
+    pre: u64,
+    sync: u64,
+    post: u64,
+    blank: u64,
+}
+
 // What a count is past another, and 0 up to it.
 fn past(count: u64, from: u64) -> u64
     ensures difference { λ r. ⌜ r ≡ count - from ⌝ }
@@ -44,14 +53,14 @@ fn in_period(test: bool, period: Period, later: Period) -> Period
     if test { period } else { later }
 }
 
-// The period of a half line, from the half lines before each period's end.
-fn period_of(half: u64, pre: u64, sync: u64, post: u64, blank: u64) -> Period
-    ensures period { λ r. ⌜ r ≡ cond (ltb half pre) PreEqualise (cond (ltb half sync) VSync (cond (ltb half post) PostEqualise (cond (ltb half blank) VBlank VDisplay))) ⌝ }
+// The period of a half line.
+fn period_of(half: u64, ends: Ends) -> Period
+    ensures period { λ r. ⌜ r ≡ cond (ltb half (ends .pre)) PreEqualise (cond (ltb half (ends .sync)) VSync (cond (ltb half (ends .post)) PostEqualise (cond (ltb half (ends .blank)) VBlank VDisplay))) ⌝ }
 {
-    let display = in_period(half < blank, Period::VBlank, Period::VDisplay);
-    let equal = in_period(half < post, Period::PostEqualise, display);
-    let low = in_period(half < sync, Period::VSync, equal);
-    in_period(half < pre, Period::PreEqualise, low)
+    let display = in_period(half < ends.blank, Period::VBlank, Period::VDisplay);
+    let equal = in_period(half < ends.post, Period::PostEqualise, display);
+    let low = in_period(half < ends.sync, Period::VSync, equal);
+    in_period(half < ends.pre, Period::PreEqualise, low)
 }
 
 // Composite sync is low: at is the tick's number in its half line, tick in its line.
@@ -66,6 +75,25 @@ fn is_low(plain: bool, period: Period, at: u64, tick: u64, halfsync: u64, broadp
         Period::VBlank => tick < 2 * halfsync,
         Period::VDisplay => tick < 2 * halfsync,
     }
+}
+
+// The same of a half line, whose period is asked for only before VBlank: full lines have one sync, and most of a frame is full lines.
+fn low_at(s: Screen, ends: Ends, plain: bool, half: u64, at: u64, tick: u64) -> bool
+    requires { ⌜ s .halfsync .0 < 0x100000000 ⌝ }
+    requires { ⌜ ends ≡ endsOf s ⌝ }
+    ensures test { λ r. ⌜ r ≡ lowIn plain (s .halfsync .0) (s .broadpulse .0) (period s half) at tick ⌝ }
+{
+    if ends.post <= half {
+        return tick < 2 * s.halfsync.0;
+    }
+    is_low(
+        plain,
+        period_of(half, ends),
+        at,
+        tick,
+        s.halfsync.0,
+        s.broadpulse.0,
+    )
 }
 
 // A half line lies in VDisplay.
@@ -99,7 +127,12 @@ pub fn moment_of(params: [u32; 14], plain: bool, half: u32, at: u32) -> Moment
     let first = (blank + line_from) / 2;
     let below = past((number + line_from) / 2, first);
     let column = past(tick, from);
-    let period = period_of(number, pre, sync, post, blank);
+    let ends = Ends {
+        pre,
+        sync,
+        post,
+        blank,
+    };
     let vdisplaying = blank <= number;
     let later = number + 1;
     let after = place + 1;
@@ -109,7 +142,7 @@ pub fn moment_of(params: [u32; 14], plain: bool, half: u32, at: u32) -> Moment
         vsyncing: (pre <= number) & (number < sync),
         vdisplaying,
         visible: vdisplaying & ((from <= tick) & (tick < to)),
-        low: is_low(plain, period, place, tick, s.halfsync.0, s.broadpulse.0),
+        low: low_at(s, ends, plain, number, place, tick),
         opens: (number == blank) & (place == 0),
         closes: (frame <= later) & (line <= after),
         column,

@@ -10,7 +10,7 @@ use borrow.Author.Tests.{lt-ltb, le-ltb, leb-true, leb-false}
 use lib.Dec.{leb}
 use lib.ListN.{length, getD}
 use lib.Pow.{shr-shr, mod-pow-add}
-use Rattle.memory.specs.Memory.{bitAt, bitsAt, pixelAt, endsBeyond}
+use Rattle.memory.specs.Memory.{bitAt, bitsAt, pixelAt, pixelIn, endsBeyond}
 
 module _ (memory : List ℕ) (k : ℕ) where
   bit-inside : (shift : ℕ) → shift < 8 → bitAt memory (8 * k + shift) ≡ getD memory k 0 / 2 ^ shift % 2
@@ -32,6 +32,12 @@ module _ (memory : List ℕ) (k : ℕ) where
       let whole : byte / 2 ^ shift % 2 ^ suc count ≡ byte / 2 ^ shift / 2 ^ 1 % 2 ^ count * 2 ^ 1 + byte / 2 ^ shift % 2 ^ 1 =
       rw add-one at (mod-pow-add (byte / 2 ^ shift) count 1) in
       rw (low, next, high, whole, up) (omega arith)
+
+-- a byte that is one pixel
+pub whole-byte : (byte place : ℕ) → byte < 256 → byte ≡ pixelIn 8 byte place
+whole-byte byte place small =
+    let first : place * 8 % 8 ≡ 0 = omega arith in
+    rw first (omega arith)
 
 factor-positive : (a b : ℕ) → a * b ≡ 8 → 0 < a
 factor-positive zero b e = absurd (omega (arith, zero-mul b))
@@ -58,6 +64,13 @@ module _ (per bits : ℕ) (whole : per * bits ≡ 8) where
     -- it ends inside that byte
     ends : place % per * bits + bits ≤ 8
     ends = omega (arith, suc-mul (place % per) bits, mul-le-mul-right {m = suc (place % per)} {n = per} bits (mod-lt place per-positive))
+
+    -- its byte, and where it stands there, by its bits alone
+    pub byte-by : place / per ≡ place * bits / 8
+    byte-by = omega (arith, starts, ends, bits-positive)
+
+    pub shift-by : place % per * bits ≡ place * bits % 8
+    shift-by = omega (arith, starts, ends, bits-positive)
 
     pub pixel-inside : (memory : List ℕ) → pixelAt bits memory place ≡ getD memory (place / per) 0 / 2 ^ (place % per * bits) % 2 ^ bits
     pixel-inside memory = rw starts (bits-inside memory (place / per) bits (place % per * bits) ends)

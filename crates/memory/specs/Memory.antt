@@ -19,6 +19,13 @@ bitsAt memory from (suc count) = bitAt memory from + 2 * bitsAt memory (suc from
 abbrev pub pixelAt : ℕ → List ℕ → ℕ → ℕ
 pixelAt bits memory place = bitsAt memory (place * bits) bits
 
+-- the byte that it stands in, and the pixel out of that byte
+abbrev pub byteOf : ℕ → ℕ → ℕ
+byteOf bits place = place * bits / 8
+
+abbrev pub pixelIn : ℕ → ℕ → ℕ → ℕ
+pixelIn bits byte place = byte / 2 ^ (place * bits % 8) % 2 ^ bits
+
 -- refusal 20: that pixel ends beyond the memory
 abbrev pub endsBeyond : ℕ → List ℕ → ℕ → Bool
 endsBeyond bits memory place = ltb (8 * length memory) ((place + 1) * bits)

@@ -1,9 +1,8 @@
 // Picture memory (01, "Rows and pixels"): a pixel out of packed bytes, at any depth, and where the memory ends.
 ghost use mathlib.Core.Path.{_≡_};
 ghost use Prim.Native.Nat.{_*_, _/_, _%_, _^_, _<_};
-ghost use lib.ListN.{getD};
 ghost use Rattle.control.specs.Control.{pixelBits};
-ghost use Rattle.memory.specs.Memory.{endsBeyond, pixelShown};
+ghost use Rattle.memory.specs.Memory.{byteOf, pixelIn, endsBeyond, pixelShown};
 
 // Pixels in a byte: a power of two, so that the compiler divides by a shift.
 fn per_byte(control: u32) -> u64
@@ -11,17 +10,6 @@ fn per_byte(control: u32) -> u64
 {
     let depth = control::depth_code(control);
     1u64 << (3 - depth)
-}
-
-// A byte of the memory; past its end 0.
-fn byte_at(memory: &[u8], index: u64) -> u8
-    ensures byte { λ r. ⌜ r ≡ getD (now (memory .entry)) index 0 ⌝ }
-{
-    if index < memory.len() as u64 {
-        memory[index as usize]
-    } else {
-        0
-    }
 }
 
 // One pixel out of a byte, by its number there, lowest bits first.
@@ -34,28 +22,41 @@ fn picked(byte: u8, number: u32, depth: u32) -> u8
     (above % (1u64 << bits)) as u8
 }
 
+// The byte that the pixel at a place stands in.
+pub fn byte_of(control: u32, place: u64) -> u64
+    ensures byte { λ r. ⌜ r ≡ byteOf (pixelBits control) place ⌝ }
+{
+    let per = per_byte(control);
+    place / per
+}
+
+// The pixel at a place, out of its byte.
+pub fn pixel_in(control: u32, byte: u8, place: u64) -> u8
+    ensures pixel { λ r. ⌜ r ≡ pixelIn (pixelBits control) byte place ⌝ }
+{
+    let per = per_byte(control);
+    // a loop over places is then made twice, once without the shifts
+    if per == 1 {
+        return byte;
+    }
+    picked(byte, (place % per) as u32, control::depth_code(control))
+}
+
 // The pixel at a place; past the memory 0, and with transfers switched off 0 everywhere.
 pub fn pixel_shown(control: u32, memory: &[u8], place: u64) -> u8
     ensures pixel { λ r. ⌜ r ≡ pixelShown control (now (memory .entry)) place ⌝ }
 {
     let on = control::is_transferring(control);
     if on {
-        let per = per_byte(control);
-        let byte = byte_at(memory, place / per);
-        // a loop over places is then made twice, once without the shifts
-        if per == 1 {
-            return byte;
-        }
-        picked(byte, (place % per) as u32, control::depth_code(control))
-    } else {
-        0
+        let byte = base::byte_at(memory, byte_of(control, place) as usize);
+        return pixel_in(control, byte, place);
     }
+    0
 }
 
 // Refusal 20: the pixel at a place ends beyond the memory.
 pub fn ends_beyond(control: u32, memory: &[u8], place: u64) -> bool
     ensures refusal { λ r. ⌜ r ≡ endsBeyond (pixelBits control) (now (memory .entry)) place ⌝ }
 {
-    let per = per_byte(control);
-    memory.len() as u64 <= place / per
+    memory.len() as u64 <= byte_of(control, place)
 }

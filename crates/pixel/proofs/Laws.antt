@@ -1,12 +1,12 @@
 -- What callers know of a pixel and of the sums. Assumes nothing.
-use Prim.Native.Nat.{ℕ, _+_}
+use Prim.Native.Nat.{ℕ, _+_, _*_, _/_, _%_, _<_}
 use mathlib.Core.Bool.{Bool, true, false}
 use mathlib.Core.Path.{_≡_, refl}
 use mathlib.Core.List.{List, [], _∷_, _++_}
 use native.Mathlib.Omega.{arith}
 use lib.ListN.{length, getD}
 use Rattle.base.specs.Sum.{rolled}
-use Rattle.base.specs.Channels.{red, green, blue}
+use Rattle.base.specs.Channels.{red, green, blue, joined}
 use Rattle.cursor.specs.Cursor.{codeOver}
 use Rattle.registers.specs.File.{numbersOf}
 use Rattle.registers.specs.declared.Registers.{Registers}
@@ -37,19 +37,43 @@ four-summed (a ∷ b ∷ c ∷ []) e s = absurd (omega arith)
 four-summed (a ∷ b ∷ c ∷ d ∷ []) e s = refl
 four-summed (a ∷ b ∷ c ∷ d ∷ x ∷ rest) e s = absurd (omega arith)
 
--- a sum with four numbers, one after the other
-abbrev pub fourth : ℕ → (ℕ → ℕ) → ℕ
-fourth sum byte = rolled (rolled (rolled (rolled sum (byte 0)) (byte 1)) (byte 2)) (byte 3)
+-- a part of each of four words, added up
+abbrev pub four : (ℕ → ℕ) → (ℕ → ℕ) → ℕ
+four part word = part (word 0) + part (word 1) + part (word 2) + part (word 3)
 
 -- four bytes added at once roll over as if one by one
-pub four-rolled : (sum a b c d : ℕ) → rolled sum (a + b + c + d) ≡ rolled (rolled (rolled (rolled sum a) b) c) d
-four-rolled sum a b c d = omega arith
+four-rolled : (sum : ℕ) (byte word : ℕ → ℕ) → rolled sum (four byte word) ≡ rolled (rolled (rolled (rolled sum (byte (word 0))) (byte (word 1))) (byte (word 2))) (byte (word 3))
+four-rolled sum byte word = omega arith
 
--- the sums with four dots, each from its own bytes
-pub four-by : (s : Sums) (l : List Dot) → length l ≡ 4 → (r g b : ℕ) →
-    r ≡ fourth (s .red) (λ k. red (getD l k black .colour)) → g ≡ fourth (s .green) (λ k. green (getD l k black .colour)) → b ≡ fourth (s .blue) (λ k. blue (getD l k black .colour)) →
-    record { red = r; green = g; blue = b } ≡ summed s l
-four-by s l e r g b er eg eb = rw (er, eg, eb) (four-summed l e s)
+-- what the code adds up: a word with no green, and its green alone
+abbrev pub redAndBlue : ℕ → ℕ
+redAndBlue word = joined (red word) 0 (blue word)
+
+abbrev pub greenAlone : ℕ → ℕ
+greenAlone word = joined 0 (green word) 0
+
+low-part : (high low : ℕ) → low < 0x10000 → (high * 0x10000 + low) % 0x10000 ≡ low
+low-part high low p = omega arith
+
+-- the bytes of four words, added up in their places: none reaches the next
+module _ (word : ℕ → ℕ) where
+  reds : four redAndBlue word / 0x10000 ≡ four red word
+  reds = omega arith
+
+  greens : four greenAlone word / 0x100 ≡ four green word
+  greens = omega arith
+
+  blues : four redAndBlue word % 0x10000 ≡ four blue word
+  blues =
+      let apart : four redAndBlue word ≡ four red word * 0x10000 + four blue word = omega arith in
+      rw apart (low-part (four red word) (four blue word) (omega arith))
+
+-- the sums with four dots, all at once
+pub four-by : (s : Sums) (l : List Dot) → length l ≡ 4 → (both alone : ℕ) → both ≡ four redAndBlue (λ k. getD l k black .colour) → alone ≡ four greenAlone (λ k. getD l k black .colour) →
+    record { red = rolled (s .red) (both / 0x10000); green = rolled (s .green) (alone / 0x100); blue = rolled (s .blue) (both % 0x10000) } ≡ summed s l
+four-by s l e both alone eb ea =
+    let word : ℕ → ℕ = λ k. getD l k black .colour in
+    rw (eb, ea, reds word, greens word, blues word, four-rolled (s .red) red word, four-rolled (s .green) green word, four-rolled (s .blue) blue word) (four-summed l e s)
 
 -- what is summed stays below 2^24
 pub none-below : Below24 none

@@ -8,9 +8,13 @@ use Rattle.colour.specs.Colour.{maskedColour}
 use Rattle.cursor.specs.Cursor.{codeOver, over}
 use Rattle.signals.specs.declared.Dot.{Dot}
 
+-- a pixel with no cursor over it
+abbrev pub coloured : Numbers → List ℕ → ℕ → Dot
+coloured n palette pixel = record { colour = maskedColour palette (n .mask) pixel }
+
 -- what stands at a place of the picture memory, with no cursor over it
 abbrev pub dotBelow : Numbers → List ℕ → List ℕ → ℕ → Dot
-dotBelow n palette memory place = record { colour = maskedColour palette (n .mask) (pixelShown (n .control) memory place) }
+dotBelow n palette memory place = coloured n palette (pixelShown (n .control) memory place)
 
 -- pixel x of line y, which stands at a place of the picture memory; the cursor's position is a parameter of the rule
 unfoldable pub dotAt : Registers → ℕ → List ℕ → ℕ → ℕ → ℕ → Dot

@@ -1,9 +1,10 @@
 // One pixel (01, "Rows and pixels"): from picture memory through mask, palette and cursor to the colour put out, and its checksums.
 ghost use mathlib.Core.Path.{_≡_};
 ghost use mathlib.Core.Bool.{cond};
+ghost use Prim.Native.Nat.{_<_};
 ghost use Rattle.registers.specs.File.{fileOf};
-ghost use Rattle.pixel.specs.Dot.{dotBelow, dotAt};
-ghost use Rattle.base.specs.Sum.{rolled};
+ghost use Rattle.pixel.specs.Dot.{coloured, dotBelow, dotAt};
+ghost use Rattle.base.specs.Channels.{red, green, blue, joined};
 ghost use Rattle.pixel.specs.Sums.{none, added, summed, clearedAt, summedWhere};
 use base::channels;
 use registers::Numbers;
@@ -23,14 +24,21 @@ pub struct Spot {
     pub y: u32,
 }
 
-// A pixel at a place, with no cursor over it.
-pub fn dot_below(n: Numbers, palette: &[u32; 256], memory: &[u8], place: u64) -> Dot
-    ensures dot { λ d. ⌜ d ≡ dotBelow n (now (palette .entry)) (now (memory .entry)) place ⌝ }
+// A pixel with no cursor over it.
+pub fn coloured(n: Numbers, palette: &[u32; 256], pixel: u8) -> Dot
+    ensures dot { λ d. ⌜ d ≡ coloured n (now (palette .entry)) pixel ⌝ }
 {
-    let pixel = memory::pixel_shown(n.control, memory, place);
     Dot {
         colour: colour::masked_colour(palette, n.mask, pixel),
     }
+}
+
+// The pixel at a place, with no cursor over it.
+fn dot_below(n: Numbers, palette: &[u32; 256], memory: &[u8], place: u64) -> Dot
+    ensures dot { λ d. ⌜ d ≡ dotBelow n (now (palette .entry)) (now (memory .entry)) place ⌝ }
+{
+    let pixel = memory::pixel_shown(n.control, memory, place);
+    coloured(n, palette, pixel)
 }
 
 // A pixel at its spot, under a cursor at a position.
@@ -61,14 +69,20 @@ fn chosen(test: bool, sums: Sums, other: Sums) -> Sums
     if test { sums } else { other }
 }
 
-// A sum with four bytes added at once: it rolls over as if one by one.
-fn four_more(sum: u32, a: u8, b: u8, c: u8, d: u8) -> u32
-    ensures sum { λ r. ⌜ r ≡ rolled (rolled (rolled (rolled sum a) b) c) d ⌝ }
+// A colour with no green: its red and blue stand 16 bits apart, so that those of four colours are added at once.
+fn red_and_blue(colour: u32) -> u32
+    ensures word { λ r. ⌜ r ≡ joined (red colour) 0 (blue colour) ⌝ }
+    ensures bound { λ r. ⌜ r < 0x1000000 ⌝ }
 {
-    base::rolled_sum(
-        sum,
-        base::wide(a) + base::wide(b) + base::wide(c) + base::wide(d),
-    )
+    colour / 0x10000 % 0x100 * 0x10000 + colour % 0x100
+}
+
+// A colour with no red and no blue.
+fn green_alone(colour: u32) -> u32
+    ensures word { λ r. ⌜ r ≡ joined 0 (green colour) 0 ⌝ }
+    ensures bound { λ r. ⌜ r < 0x1000000 ⌝ }
+{
+    colour / 0x100 % 0x100 * 0x100
 }
 
 impl Sums {
@@ -97,7 +111,7 @@ impl Sums {
         }
     }
 
-    // Four dots added.
+    // Four dots added, a channel's four bytes at once: a sum rolls over as if one by one.
     fn with_four(self, four: [Dot; 4]) -> Sums
         ensures sums { λ r. ⌜ r ≡ summed self four ⌝ }
     {
@@ -105,28 +119,18 @@ impl Sums {
         let b = four[1];
         let c = four[2];
         let d = four[3];
+        let both = red_and_blue(a.colour)
+            + red_and_blue(b.colour)
+            + red_and_blue(c.colour)
+            + red_and_blue(d.colour);
+        let green = green_alone(a.colour)
+            + green_alone(b.colour)
+            + green_alone(c.colour)
+            + green_alone(d.colour);
         Sums {
-            red: four_more(
-                self.red,
-                channels::red_byte(a.colour),
-                channels::red_byte(b.colour),
-                channels::red_byte(c.colour),
-                channels::red_byte(d.colour),
-            ),
-            green: four_more(
-                self.green,
-                channels::green_byte(a.colour),
-                channels::green_byte(b.colour),
-                channels::green_byte(c.colour),
-                channels::green_byte(d.colour),
-            ),
-            blue: four_more(
-                self.blue,
-                channels::blue_byte(a.colour),
-                channels::blue_byte(b.colour),
-                channels::blue_byte(c.colour),
-                channels::blue_byte(d.colour),
-            ),
+            red: base::rolled_sum(self.red, both / 0x10000),
+            green: base::rolled_sum(self.green, green / 0x100),
+            blue: base::rolled_sum(self.blue, both % 0x10000),
         }
     }
 

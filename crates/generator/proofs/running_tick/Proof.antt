@@ -16,23 +16,27 @@ running-tick-spec =
     tie.close
     (tie.spec
     (λ c κs. c .before .pre)
-    (λ c κs. (c .before .before .pre, c .stand-of .ensures))
-    (λ c κs. tt)
-    (λ c κs. (c .before .before .before .before .pre, c .before .before .stand-of .ensures))
-    (λ c κs. c .before .before .before .stand-of .ensures)
+    (λ c κs. c .stand-of .ensures)
     (λ c κs. tt)
     (λ c.
-    let start = c .before .before .before .before .before .before .before .before in
+    let then = c .before in
+    let start = then .before .before .before .before in
     tick-20 (r start) (start .args .g) (start .args .memory .now) (start .pre .runs) _ (c .silence .ensures)
-    (sym (refuses-bare (r start) (start .args .g) (start .args .memory .now)) ∙ sym (c .before .before .is-refused .ensures) ∙ c .before .if1 .taken))
+    (sym (refuses-bare (r start) (start .args .g) (start .args .memory .now)) ∙ sym (then .before .is-refused .ensures) ∙ then .if1 .taken))
+    (λ c κs.
+    let stand = c .before .before in
+    (stand .before .before .pre, (stand .stand-of .ensures, sym (c .before .is-refused .ensures) ∙ c .if1 .left)))
+    (λ c κs. tt)
+    (λ c κs. let stand = c .before .before .before .before in (stand .before .before .pre, stand .stand-of .ensures))
     (λ c κs. c .before .before .before .before .before .stand-of .ensures)
     (λ c.
-    let next = c .before .before .before in
+    let next = c .before in
     let dots = next .before .before in
-    let stand = dots .before in
+    let go = dots .before in
+    let stand = go .before .before in
     let start = stand .before .before in
     tick-0 (r start) (start .args .g) (start .args .memory .now) (start .pre .runs)
-    (sym (refuses-bare (r start) (start .args .g) (start .args .memory .now)) ∙ sym (c .before .before .is-refused .ensures) ∙ c .before .if1 .left) _ _ _
+    (sym (refuses-bare (r start) (start .args .g) (start .args .memory .now)) ∙ sym (go .before .is-refused .ensures) ∙ go .if1 .left) _ _ _
     (c .signals-of .ensures ∙ signals-bare (r start) (start .args .g) _ ∙ ap (signalsWith (r start) (start .args .g)) (dots .dots-of .ensures))
     (sums-by (r start) (start .args .memory .now) (start .args .g) _ (stands-whole (r start) (start .args .g) _ (stand .stand-of .ensures)) _ (dots .dots-of .ensures) _ (next .before .tallied .ensures))
     (next .next-of .ensures ∙ step-bare (r start) (start .args .g) _)))

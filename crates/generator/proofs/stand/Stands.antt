@@ -1,7 +1,8 @@
 -- What the code finds of a tick is what the rules say of it. Assumes nothing.
 use Prim.Native.Nat.{ℕ, _+_, _*_, _/_, _%_, _^_, _<_}
-use mathlib.Core.Bool.{Bool, true, not, cond, _&&_}
-use mathlib.Core.Path.{_≡_, ap, _∙_}
+use mathlib.Core.Bool.{Bool, true, false, not, cond, _&&_, true≢false}
+use mathlib.Core.Path.{_≡_, refl, sym, ap, _∙_}
+use native.Mathlib.Omega.{arith}
 use lib.Dec.{ltb, leb, eqb}
 use Rattle.base.specs.Sum.{rolled}
 use Rattle.control.specs.Control.{running, plain, forcedBlank, transferring, increment}
@@ -35,74 +36,107 @@ abbrev known : Bool → ℕ → Generator → Screen → Bool → Bool → Known
 known on n g s visible asks =
     record { on = on; visible = visible; asks = asks; leads = leads s n; seen = g .seen .0; all = frameVisible s; asked = g .asked }
 
--- the request, from what its parts answer; the prelude by the number of its tick
-pub request-by : (control : ℕ) (g : Generator) (s : Screen) → Accepted control s → (n first : ℕ) (visible asks on out : Bool) → first ≡ firstVisible s → on ≡ transferring control →
-    out ≡ requested (record { on = on; visible = visible; asks = asks; leads = ltb n first && leb first (n + s .transferdelay .0); seen = g .seen .0; all = frameVisible s; asked = g .asked }) →
-    out ≡ requested (known (transferring control) n g s visible asks)
-request-by control g s ok n first visible asks on out ef en eo = eo ∙ rw (en, ef, leads-by control s ok n)
+-- the request at a tick that is not visible, from what its parts answer; the prelude by the number of its tick
+pub request-by : (control : ℕ) (g : Generator) (s : Screen) → Accepted control s → (n first : ℕ) (on out : Bool) → first ≡ firstVisible s → on ≡ transferring control →
+    out ≡ requested (record { on = on; visible = false; asks = false; leads = ltb n first && leb first (n + s .transferdelay .0); seen = g .seen .0; all = frameVisible s; asked = g .asked }) →
+    out ≡ requested (known (transferring control) n g s false false)
+request-by control g s ok n first on out ef en eo = eo ∙ rw (en, ef, leads-by control s ok n)
 
-module _ (r : Registers) (g : Generator) (s : Screen) (es : s ≡ screen r) (n : Moment) (l b on a q : Bool) (i top t h d p : ℕ)
-    (el : l ≡ plain (r .control))
-    (en : n ≡ momentOf (screen r) l (g .half .0) (g .at .0))
-    (ei : i ≡ increment (r .control))
-    (eu : top ≡ topUsed r)
-    (et : t ≡ cond (n .opens) top (g .held))
-    (eh : h ≡ cond ((n .visible && eqb (g .seen .0 % rowLength s) 0) && ltb 0 (g .seen .0)) (rolled t i) t)
-    (eb : b ≡ forcedBlank (r .control))
-    (ed : 2 ^ d ≡ rowDivisor r)
-    (ep : p ≡ (h / 2 ^ d * rowLength s + g .seen .0 % rowLength s) * 4 + 0)
-    (eo : on ≡ transferring (r .control))
-    (ea : a ≡ asking on (s .meminit .0) (g .seen .0 % rowLength s))
-    (eq : q ≡ requested (known (transferring (r .control)) (tickNumber s (g .half .0) (g .at .0)) g s (n .visible) a)) where
-  moment-is : n ≡ momentOf (screen r) (plain (r .control)) (g .half .0) (g .at .0)
-  moment-is = en ∙ rw el
+-- at a tick that is not visible what a visible one would ask plays no part
+request-between : (on : Bool) (n : ℕ) (g : Generator) (s : Screen) (a : Bool) → requested (known on n g s false false) ≡ requested (known on n g s false a)
+request-between on n g s a = refl
 
+module _ (r : Registers) (g : Generator) (s : Screen) (es : s ≡ screen r) (n : Moment) (en : n ≡ momentOf (screen r) (plain (r .control)) (g .half .0) (g .at .0)) where
   visible-is : n .visible ≡ visibleAt r g
   unfolding visibleAt momentOf
-  visible-is = ap (λ (x : Moment). x .visible) moment-is
+  visible-is = ap (λ (x : Moment). x .visible) en
 
-  opens-is : n .opens ≡ opens (screen r) (g .half .0) (g .at .0)
-  unfolding momentOf
-  opens-is = ap (λ (x : Moment). x .opens) moment-is
+  -- the address taken up at VDisplay's first tick
+  pub taken-by : (top t : ℕ) → top ≡ topUsed r → t ≡ cond (n .opens) top (g .held) → t ≡ taken r g
+  unfolding taken momentOf
+  taken-by top t eu et = et ∙ rw (eu, en)
 
-  taken-is : t ≡ taken r g
-  unfolding taken
-  taken-is = et ∙ rw (opens-is, eu)
+  -- between the lines
+  module _ (off : n .visible ≡ false) (t : ℕ) (et : t ≡ taken r g) (q : Bool) (eq : q ≡ requested (known (transferring (r .control)) (tickNumber s (g .half .0) (g .at .0)) g s false false)) where
+    unseen : visibleAt r g ≡ false
+    unseen = sym visible-is ∙ off
 
-  transfer-is : (n .visible && eqb (g .seen .0 % rowLength s) 0) ≡ transferAt r g
-  unfolding transferAt
-  transfer-is = rw (visible-is, es)
+    transfer-off : false ≡ transferAt r g
+    unfolding transferAt
+    transfer-off = rw unseen
 
-  held-is : h ≡ heldAddress r g
-  unfolding heldAddress
-  held-is = eh ∙ rw (transfer-is, taken-is, ei)
+    held-off : t ≡ heldAddress r g
+    unfolding heldAddress
+    held-off = rw (← transfer-off) et
 
-  asking-is : a ≡ asks (r .control) (screen r) (g .seen .0)
-  unfolding asks
-  asking-is = ea ∙ rw (eo, es)
+    request-off : q ≡ requestAt r g
+    unfolding requestAt
+    request-off = eq ∙ rw (unseen, es) (request-between (transferring (r .control)) (tickNumber (screen r) (g .half .0) (g .at .0)) g (screen r) (asks (r .control) (screen r) (g .seen .0)))
 
-  request-is : q ≡ requestAt r g
-  unfolding requestAt
-  request-is = eq ∙ rw (visible-is, asking-is, es)
+    shows-off : false ≡ shows r g
+    unfolding shows
+    shows-off = rw unseen
 
-  shows-is : (n .visible && not b) ≡ shows r g
-  unfolding shows
-  shows-is = rw (visible-is, eb)
+    pub stands-off : Stands r g (record { screen = s; moment = n; transfer = false; held = t; asking = false; request = q; shows = false; place = 0 })
+    stands-off =
+        record {
+          screen-is = es;
+          moment-is = en;
+          transfer-is = transfer-off;
+          held-is = held-off;
+          asking-is = λ v. absurd (true≢false (sym v ∙ unseen));
+          request-is = request-off;
+          shows-is = shows-off;
+          place-is = λ v. absurd (true≢false (sym v ∙ unseen));
+          place-in = omega arith;
+        }
 
-  place-is : p ≡ place r (heldAddress r g) (g .seen .0) 0
-  unfolding place
-  place-is = ep ∙ rw (held-is, ed, es)
+  -- in a line
+  module _ (on : n .visible ≡ true) (t h d p : ℕ) (o a b : Bool)
+      (et : t ≡ taken r g)
+      (eh : h ≡ cond (eqb (g .seen .0 % rowLength s) 0 && ltb 0 (g .seen .0)) (rolled t (increment (r .control))) t)
+      (ed : 2 ^ d ≡ rowDivisor r)
+      (ep : p ≡ (h / 2 ^ d * rowLength s + g .seen .0 % rowLength s) * 4 + 0)
+      (eo : o ≡ transferring (r .control))
+      (ea : a ≡ asking o (s .meminit .0) (g .seen .0 % rowLength s))
+      (eb : b ≡ forcedBlank (r .control)) where
+    seen : visibleAt r g ≡ true
+    seen = sym visible-is ∙ on
 
-  pub stands-at : p < 2 ^ 60 → Stands r g (record { screen = s; moment = n; transfer = n .visible && eqb (g .seen .0 % rowLength s) 0; held = h; asking = a; request = q; shows = n .visible && not b; place = p })
-  stands-at bound =
-      record {
-        screen-is = es;
-        moment-is = moment-is;
-        transfer-is = transfer-is;
-        held-is = held-is;
-        asking-is = asking-is;
-        request-is = request-is;
-        shows-is = shows-is;
-        place-is = place-is;
-        place-in = bound;
-      }
+    transfer-is : eqb (g .seen .0 % rowLength s) 0 ≡ transferAt r g
+    unfolding transferAt
+    transfer-is = rw (seen, es)
+
+    held-is : h ≡ heldAddress r g
+    unfolding heldAddress
+    held-is = eh ∙ rw (transfer-is, et)
+
+    asking-is : a ≡ asks (r .control) (screen r) (g .seen .0)
+    unfolding asks
+    asking-is = ea ∙ rw (eo, es)
+
+    request-is : (o && a) ≡ requestAt r g
+    unfolding requestAt
+    request-is = rw (seen, eo, asking-is)
+
+    shows-is : not b ≡ shows r g
+    unfolding shows
+    shows-is = rw (seen, eb)
+
+    place-is : p ≡ place r (heldAddress r g) (g .seen .0) 0
+    unfolding place
+    place-is = ep ∙ rw (held-is, ed, es)
+
+    pub stands-in : p < 2 ^ 60 → Stands r g (record { screen = s; moment = n; transfer = eqb (g .seen .0 % rowLength s) 0; held = h; asking = a; request = o && a; shows = not b; place = p })
+    stands-in bound =
+        record {
+          screen-is = es;
+          moment-is = en;
+          transfer-is = transfer-is;
+          held-is = held-is;
+          asking-is = λ v. asking-is;
+          request-is = request-is;
+          shows-is = shows-is;
+          place-is = λ v. place-is;
+          place-in = bound;
+        }

@@ -1,5 +1,6 @@
 -- `lines::moment_of` meets its contract: each part by its own test, over counts that 32 bits bound.
 use Prim.Native.Nat.{ℕ}
+use mathlib.Core.Path.{refl}
 use native.Mathlib.Omega.{arith}
 use mir.Syntax.{w32}
 use mir.Val.{Fits}
@@ -35,17 +36,15 @@ moment-of-spec =
     (λ c. let screen = c .before .before .before .before .before .before .before .before .before in omega (arith, counts screen, screen .before .fits))
     (λ c κs. tt)
     (λ c κs. tt)
+    (λ c. let screen = c .before .before .before .before .before .before .before .before .before .before .before in omega (arith, screen .before .fits))
+    (λ c. let screen = c .before .before .before .before .before .before .before .before .before .before .before in omega (arith, screen .before .fits))
     (λ c κs. tt)
-    (λ c. let screen = c .before .before .before .before .before .before .before .before .before .before .before .before in omega (arith, screen .before .fits))
-    (λ c. let screen = c .before .before .before .before .before .before .before .before .before .before .before .before in omega (arith, screen .before .fits))
-    (λ c κs. tt)
-    (λ c κs. counts (c .before .before .before .before .before .before .before .before .before .before .before .before .before) .halfsync)
+    (λ c κs. (counts (c .before .before .before .before .before .before .before .before .before .before .before .before) .halfsync, refl))
     (λ c κs. tt)
     (λ c κs. tt)
     (λ c.
     let low = c .before .before in
-    let period = low .before .before in
-    let column = period .before in
+    let column = low .before .before in
     let line = column .before in
     let screen = line .before .before .before .before .before .before .before .before .before .before in
     moment-by (screen .screen-of .result) (screen .before .args .plain) (screen .before .args .half) (screen .before .args .at)
@@ -53,8 +52,7 @@ moment-of-spec =
     _ (line .before .choose .ensures)
     _ (line .past .ensures)
     _ (column .past2 .ensures)
-    _ (period .period-of .ensures)
     _ (low .before .choose2 .ensures)
-    _ (low .is-low .ensures)
+    _ (low .low-at .ensures)
     _ _ (c .before .choose3 .ensures) (c .choose4 .ensures)
     _ (screen .screen-of .ensures)))

@@ -10,4 +10,4 @@ period-of-spec =
     (λ c κs. tt)
     (λ c κs. tt)
     (λ c κs. tt)
-    (λ c. rw (c .in-period4 .ensures, c .before .in-period3 .ensures, c .before .before .in-period2 .ensures, c .before .before .before .in-period .ensures)))
+    (λ c. rw (c .in-period4 .ensures, c .before .before .in-period3 .ensures, c .before .before .before .before .in-period2 .ensures, c .before .before .before .before .before .before .in-period .ensures)))

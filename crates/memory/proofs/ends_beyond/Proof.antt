@@ -1,5 +1,6 @@
 -- `memory::ends_beyond` meets its contract: a pixel ends beyond the memory exactly when its byte does. Assumes nothing.
-use Rattle.memory.proofs.Bytes.{per-positive, byte-beyond}
+use mathlib.Core.Path.{_∙_}
+use Rattle.memory.proofs.Laws.{beyond-by}
 use Rattle.memory.proofs.ends_beyond.Statement.{statement}
 use Rattle.memory.proofs.ends_beyond.Tie as tie
 
@@ -8,5 +9,4 @@ ends-beyond-spec =
     tie.close
     (tie.spec
     (λ c κs. tt)
-    (λ c. per-positive _ _ (c .per-byte .ensures))
-    (λ c. byte-beyond _ _ (c .per-byte .ensures) _ (c .before .before .args .memory .now)))
+    (λ c. rw (c .byte-of .ensures) (beyond-by _ (c .before .before .args .memory .now) _)))

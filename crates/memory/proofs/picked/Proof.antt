@@ -1,16 +1,13 @@
 -- `memory::picked` meets its contract. Eight bits at the most are shifted by 56 at the most: nothing is lost. Assumes nothing.
 use Prim.Native.Nat.{ℕ, _*_, _/_, _%_, _^_, _≤_, _<_}
-use mathlib.Core.Path.{_≡_, _∙_}
-use native.Mathlib.Nat.{one-mul, mul-le-mul, mod-lt}
+use mathlib.Core.Path.{_≡_}
+use native.Mathlib.Nat.{mul-le-mul, mod-lt}
 use native.Mathlib.Omega.{arith}
-use lib.Pow.{pow-pos, pow-mono, shl-exact}
+use lib.Pow.{pow-pos, pow-mono}
 use borrow.Author.Needs.{needs}
+use Rattle.memory.proofs.Laws.{one-bit}
 use Rattle.memory.proofs.picked.Statement.{statement}
 use Rattle.memory.proofs.picked.Tie as tie
-
--- a one shifted left is a power of two
-one-bit : (n : ℕ) → n < 64 → 1 * 2 ^ n % 2 ^ 64 ≡ 2 ^ n
-one-bit n h = shl-exact {a = 1} 1 n 64 (omega arith) (omega arith) ∙ one-mul (2 ^ n)
 
 few-bits : (depth : ℕ) → depth < 4 → 2 ^ depth ≤ 8
 few-bits depth h = pow-mono {i = depth} {j = 3} (omega arith)

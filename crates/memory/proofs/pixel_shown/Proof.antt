@@ -1,8 +1,6 @@
--- `memory::pixel_shown` meets its contract: the pixel is the one of that number in its byte, or the whole byte. Assumes nothing.
-use native.Mathlib.Omega.{arith}
-use mir.Facts.{fits-lt, fits-lit}
-use Rattle.memory.proofs.Bytes.{per-positive, number-small}
-use Rattle.memory.proofs.Cases.{shown-on, shown-byte, shown-off}
+-- `memory::pixel_shown` meets its contract: the pixel in its byte where transfers are on, and 0 where they are off. Assumes nothing.
+use mathlib.Core.Path.{sym, _∙_}
+use Rattle.memory.proofs.Laws.{shown-in, shown-off}
 use Rattle.memory.proofs.pixel_shown.Statement.{statement}
 use Rattle.memory.proofs.pixel_shown.Tie as tie
 
@@ -12,15 +10,12 @@ pixel-shown-spec =
     (tie.spec
     (λ c κs. tt)
     (λ c κs. tt)
-    (λ c. per-positive _ _ (c .per-byte .ensures))
+    (λ c κs. tt)
     (λ c κs. tt)
     (λ c.
-    let start = c .before .before .before .before .before .before in
-    shown-byte (start .args .control) (start .args .memory .now) (start .args .place) _ (c .before .before .before .before .is-transferring .ensures) (c .before .before .before .if1 .taken)
-    _ _ (c .before .before .per-byte .ensures) (c .before .byte-at .ensures) (c .if2 .taken) (omega arith))
-    (λ c. per-positive _ _ (c .before .before .per-byte .ensures))
-    (λ c. fits-lt (number-small _ _ (c .before .before .per-byte .ensures) _) (fits-lit tt))
-    (λ c κs. tt)
-    (λ c κs. (number-small _ _ (c .before .before .before .per-byte .ensures) _, omega arith))
-    (λ c. search shown-on)
-    (λ c. search shown-off))
+    let on = c .before .before .before in
+    let start = on .before .before .before in
+    c .pixel-in .ensures
+    ∙ rw (c .before .byte-at .ensures, c .before .before .byte-of .ensures)
+    (shown-in (start .args .control) (start .args .memory .now) (start .args .place) (sym (on .before .is-transferring .ensures) ∙ on .if1 .taken)))
+    (λ c. shown-off _ _ _ (sym (c .before .is-transferring .ensures) ∙ c .if1 .left)))

@@ -8,4 +8,4 @@ dot-below-spec =
     (tie.spec
     (λ c κs. tt)
     (λ c κs. tt)
-    (λ c. rw (c .masked-colour .ensures, c .before .pixel-shown .ensures)))
+    (λ c. rw (c .coloured .ensures, c .before .pixel-shown .ensures)))

@@ -8,7 +8,7 @@ use Rattle.registers.specs.File.{fileOf, bare}
 use Rattle.registers.specs.declared.Registers.{Registers}
 use Rattle.generator.specs.Stand.{Stands}
 use Rattle.generator.proofs.Bare.{stands-whole}
-use Rattle.generator.proofs.Puts.{dots-lit, covered-by, uncovered-by, dots-dark, display-some, display-most, line-in, spot-column, spot-line, spot-by}
+use Rattle.generator.proofs.Puts.{held-by, dots-lit, covered-by, uncovered-by, dots-dark, display-some, display-most, line-in, spot-column, spot-line, spot-by}
 use Rattle.generator.proofs.output.dots_of.Statement.{statement}
 use Rattle.generator.proofs.output.dots_of.Tie as tie
 
@@ -17,31 +17,31 @@ module _ (start : tie.Start) where
   r = fileOf (start .args .n) (start .args .colours .now) (start .args .palette .now) (start .args .store .now)
 
   whole : Stands r (start .args .g) (start .args .t)
-  whole = stands-whole r (start .args .g) (start .args .t) (start .pre .1)
+  whole = stands-whole r (start .args .g) (start .args .t) (start .pre .1 .0)
 
   some : 0 < start .args .t .screen .display .0
-  some = display-some (bare (start .args .n)) (start .args .g) (start .pre .0) (start .args .t .screen) (start .pre .1 .screen-is)
+  some = display-some (bare (start .args .n)) (start .args .g) (start .pre .0) (start .args .t .screen) (start .pre .1 .0 .screen-is)
 
   most : start .args .t .screen .display .0 ≤ 0xFFFFFF
-  most = display-most (bare (start .args .n)) (start .args .g) (start .pre .0) (start .args .t .screen) (start .pre .1 .screen-is)
+  most = display-most (bare (start .args .n)) (start .args .g) (start .pre .0) (start .args .t .screen) (start .pre .1 .0 .screen-is)
 
   module _ (on : start .args .t .shows ≡ true) where
     column : start .args .t .moment .column < 2 ^ 26
     column =
-        rw (spot-column (bare (start .args .n)) (start .args .g) (start .pre .0) (start .args .t) (start .pre .1) on)
+        rw (spot-column (bare (start .args .n)) (start .args .g) (start .pre .0) (start .args .t) (start .pre .1 .0) on)
         (omega (arith, mod-lt (start .args .g .seen .0) some, most))
 
     line : start .args .t .moment .line < 2 ^ 32
     line =
-        rw (spot-line (bare (start .args .n)) (start .args .g) (start .pre .0) (start .args .t) (start .pre .1) on)
-        (line-in (bare (start .args .n)) (start .args .g) (start .pre .0) (start .args .t .screen) (start .pre .1 .screen-is))
+        rw (spot-line (bare (start .args .n)) (start .args .g) (start .pre .0) (start .args .t) (start .pre .1 .0) on)
+        (line-in (bare (start .args .n)) (start .args .g) (start .pre .0) (start .args .t .screen) (start .pre .1 .0 .screen-is))
 
 -- the first pixel's place and column leave room for three more
 near : (c : tie.After-spot-of) → (c .spot-of .result .place < 2 ^ 60) × (c .spot-of .result .x < 2 ^ 28)
 near c =
     let start = c .before .before .before in
     rw (c .spot-of .ensures)
-    (start .pre .1 .place-in, omega (arith, column start (c .before .if1 .taken)))
+    (start .pre .1 .0 .place-in, omega (arith, column start (c .before .if1 .taken)))
 
 -- and stand where the ticks counted say
 spotted : (c : tie.After-spot-of) →
@@ -52,7 +52,7 @@ spotted : (c : tie.After-spot-of) →
     }
 spotted c =
     let start = c .before .before .before in
-    spot-by (bare (start .args .n)) (start .args .g) (start .pre .0) (start .args .t) (start .pre .1) (c .before .if1 .taken) _ (c .spot-of .ensures)
+    spot-by (bare (start .args .n)) (start .args .g) (start .pre .0) (start .args .t) (start .pre .1 .0) (c .before .if1 .taken) _ (c .spot-of .ensures)
 
 pub dots-of-spec : {M : Type 1} → statement M
 dots-of-spec =
@@ -67,8 +67,13 @@ dots-of-spec =
     let lit = spot .before in
     let start = lit .before .before in
     dots-lit (r start) (start .args .memory .now) (start .args .g) (start .args .t) (whole start) (lit .if1 .taken) _
-    (c .covered .ensures ∙ covered-by (r start) (start .args .memory .now) (start .args .g) (start .args .t) (whole start) _ (spotted spot)))
-    (λ c κs. let start = c .before .before .before .before .before .before in start .pre .1 .place-in)
+    (c .covered .ensures ∙ covered-by (r start) (start .args .memory .now) (start .args .g) (start .args .t) (whole start) (lit .if1 .taken) _ (spotted spot)))
+    (λ c κs.
+    let lit = c .before .before .before .before in
+    let start = lit .before .before in (
+      start .pre .1 .0 .place-in,
+      held-by (bare (start .args .n)) (start .args .memory .now) (start .args .g) (start .args .t) (start .pre .1 .0) (lit .if1 .taken) (start .pre .1 .1),
+    ))
     (λ c.
     let off = c .before in
     let close = off .before in
@@ -77,7 +82,7 @@ dots-of-spec =
     let start = lit .before .before in
     dots-lit (r start) (start .args .memory .now) (start .args .g) (start .args .t) (whole start) (lit .if1 .taken) _
     (c .uncovered .ensures
-    ∙ uncovered-by (r start) (start .args .memory .now) (start .args .g) (start .args .t) (whole start) _ (spotted spot) (rw (← (close .before .is-cursor-on .ensures), ← (close .is-near .ensures)) (off .if2 .left))))
+    ∙ uncovered-by (r start) (start .args .memory .now) (start .args .g) (start .args .t) (whole start) (lit .if1 .taken) _ (spotted spot) (rw (← (close .before .is-cursor-on .ensures), ← (close .is-near .ensures)) (off .if2 .left))))
     (λ c.
     let start = c .before .before in
     dots-dark (r start) (start .args .memory .now) (start .args .g) (start .args .t) (whole start) (c .if1 .left)))

@@ -1,6 +1,5 @@
 -- `generator::output::uncovered` meets its contract: one pixel after the other.
-use native.Mathlib.Omega.{arith}
-use mathlib.Core.Path.{refl}
+use borrow.Author.Needs.{needs}
 use Rattle.base.specs.Count.{run}
 use Rattle.generator.proofs.output.uncovered.Statement.{statement}
 use Rattle.generator.proofs.output.uncovered.Tie as tie
@@ -10,12 +9,15 @@ unfolding run
 uncovered-spec =
     tie.close
     (tie.spec
-    (λ c. omega arith)
+    (λ c κs. c .before .pre)
+    (λ c. search needs)
     (λ c κs. tt)
-    (λ c. omega arith)
+    (λ c. search needs)
     (λ c κs. tt)
-    (λ c. omega arith)
+    (λ c. search needs)
     (λ c κs. tt)
-    (λ c. omega arith)
+    (λ c. search needs)
     (λ c κs. tt)
-    (λ c. rw (c .dot-below4 .ensures, c .before .dot-below3 .ensures, c .before .before .dot-below2 .ensures, c .before .before .before .dot-below .ensures)))
+    (λ c.
+    let fetched = c .before .before .before .before in
+    rw (c .coloured4 .ensures, c .before .coloured3 .ensures, c .before .before .coloured2 .ensures, c .before .before .before .coloured .ensures, fetched .fetched .ensures)))

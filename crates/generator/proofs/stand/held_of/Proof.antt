@@ -8,4 +8,5 @@ held-of-spec =
     (tie.spec
     (λ c κs. tt)
     (λ c κs. tt)
-    (λ c. rw (c .first .ensures, c .before .rolled-sum .ensures)))
+    (λ c. simp (c .before .before .if1 .taken) (rw (c .rolled-sum .ensures, c .before .address-increment .ensures)))
+    (λ c. simp (c .if1 .left)))

@@ -16,20 +16,19 @@ is-request-spec =
     tie.close
     (tie.spec
     (λ c κs. tt)
-    (λ c. rw (c .if1 .taken, c .before .is-transferring .ensures))
-    (λ c. omega (arith, product (c .before .before .before .before)))
-    (λ c. let start = c .before .before .before .before .before in omega (arith, product start, start .pre .at-in, start .pre .bounded .linetime .high))
-    (λ c. let start = c .before .before .before .before .before .before in omega (arith, product start, start .pre .at-in, start .pre .bounded .linetime .high, start .pre .bounded .transferdelay .high))
+    (λ c. omega (arith, product (c .before .before .before)))
+    (λ c. let start = c .before .before .before .before in omega (arith, product start, start .pre .at-in, start .pre .bounded .linetime .high))
+    (λ c. let start = c .before .before .before .before .before in omega (arith, product start, start .pre .at-in, start .pre .bounded .linetime .high, start .pre .bounded .transferdelay .high))
     (λ c κs. tt)
-    (λ c. let start = c .before .before .before .before .before .before .before .before in omega (arith, visible-by (start .args .s) (start .pre .bounded) _ (c .before .displayed-lines .ensures)))
-    (λ c κs. (c .before .before .before .before .before .before .before .before) .pre .bounded)
+    (λ c. let start = c .before .before .before .before .before .before .before in omega (arith, visible-by (start .args .s) (start .pre .bounded) _ (c .before .displayed-lines .ensures)))
+    (λ c κs. (c .before .before .before .before .before .before .before) .pre .bounded)
     (λ c κs. tt)
     (λ c.
     let first = c .before in
     let lines = first .before .before in
-    let on = lines .before .before .before .before .before .before in
+    let on = lines .before .before .before .before .before in
     let start = on .before in
-    request-by (start .args .control) (start .args .g) (start .args .s) (start .pre .accepted) _ _ (start .args .visible) (start .args .asks) _ _
+    request-by (start .args .control) (start .args .g) (start .args .s) (start .pre .accepted) _ _ _ _
     (first .first-visible .ensures)
     (on .is-transferring .ensures)
     (rw (lines .displayed-lines .ensures) at (c .is-requested .ensures))))

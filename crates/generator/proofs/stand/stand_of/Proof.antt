@@ -1,67 +1,48 @@
--- `generator::stand::stand_of` meets its contract: each part by its own call, joined by one law.
-use native.Mathlib.Nat.{mod-lt}
+-- `generator::stand::stand_of` meets its contract: in a line and between lines.
+use mathlib.Core.Bool.{Bool}
+use mathlib.Core.Path.{_≡_, ap, _∙_}
 use native.Mathlib.Omega.{arith}
+use Rattle.control.specs.Control.{plain}
 use Rattle.registers.specs.File.{bare}
-use Rattle.generator.specs.Sound.{InFrame}
-use Rattle.generator.proofs.stand.Stands.{runs-in-frame, stands-at}
-use Rattle.generator.proofs.Rows.{row-some, row-most}
+use Rattle.lines.specs.Lines.{momentOf}
+use Rattle.generator.specs.Rows.{screen, taken}
+use Rattle.generator.proofs.stand.Stands.{runs-in-frame, taken-by, stands-off}
 use Rattle.generator.proofs.stand.stand_of.Statement.{statement}
 use Rattle.generator.proofs.stand.stand_of.Tie as tie
 
-abbrev start : tie.After-struct-known → tie.Start
-start c = c .before .before .before
+module _ (c : tie.After-first) where
+  abbrev start : tie.Start
+  start = c .before .before .before .before .before .before
 
-inside : (c : tie.After-struct-known) → InFrame (start c .args .n .control) (c .before .screen-of .result) (start c .args .g .half .0) (start c .args .g .at .0)
-inside c = runs-in-frame (bare (start c .args .n)) (start c .args .g) (start c .pre) _ (c .before .screen-of .ensures)
+  moment : c .before .before .moment-of .result ≡ momentOf (screen (bare (start .args .n))) (plain (start .args .n .control)) (start .args .g .half .0) (start .args .g .at .0)
+  moment =
+      c .before .before .moment-of .ensures
+      ∙ ap (λ (b : Bool). momentOf (screen (bare (start .args .n))) b (start .args .g .half .0) (start .args .g .at .0)) (c .before .before .before .is-plain .ensures)
 
-abbrev known : tie.After-is-transferring → tie.After-struct-known
-known o = o .before .before .before .before .before .before .before .before .before .before .before
+  held : c .first .result ≡ taken (bare (start .args .n)) (start .args .g)
+  held =
+      taken-by (bare (start .args .n)) (start .args .g) (c .before .before .before .before .screen-of .result) (c .before .before .before .before .screen-of .ensures) _ moment _ _
+      (c .before .top-used .ensures) (c .first .ensures)
 
 pub stand-of-spec : {M : Type 1} → statement M
 stand-of-spec =
     tie.close
     (tie.spec
     (λ c κs. tt)
-    (λ c. omega (arith, row-most _ (inside c .bounded)))
-    (λ c. omega (arith, row-some _ (inside c .bounded)))
     (λ c κs. tt)
     (λ c. omega arith)
     (λ c. omega arith)
-    (λ c κs. tt)
-    (λ c κs. tt)
-    (λ c κs. tt)
-    (λ c κs. tt)
     (λ c κs. tt)
     (λ c κs. tt)
     (λ c κs. tt)
     (λ c κs.
-    let k = c .before .before .before .before .before .before .before .before .before in (
-      c .row-power .ensures .1,
-      mod-lt (start k .args .g .seen .0) (row-some _ (inside k .bounded)),
-      row-most _ (inside k .bounded),
-    ))
-    (λ c κs. tt)
-    (λ c κs. tt)
-    (λ c κs. inside (known (c .before)))
+    let first = c .before in
+    (start first .pre, (first .before .before .before .before .screen-of .ensures, (moment first, (c .if1 .taken, held first)))))
+    (λ c. c .in-row .ensures)
+    (λ c κs.
+    let first = c .before in
+    runs-in-frame (bare (start first .args .n)) (start first .args .g) (start first .pre) _ (first .before .before .before .before .screen-of .ensures))
     (λ c.
-    let a = c .before .before in
-    let o = a .before in
-    let p = o .before in
-    let held = p .before .before .before in
-    let q = held .before .before .before in
-    let m = q .before .before in
-    let k = m .before .before in
-    stands-at (bare (start k .args .n)) (start k .args .g) (k .before .screen-of .result) (k .before .screen-of .ensures) _ _ _ _ _ _ _ _ _ _ _ _
-    (m .before .is-plain .ensures)
-    (m .moment-of .ensures)
-    (q .address-increment .ensures)
-    (held .before .before .top-used .ensures)
-    (held .before .first .ensures)
-    (held .held-of .ensures)
-    (p .before .before .is-forced-blank .ensures)
-    (p .before .row-power .ensures .0)
-    (p .place-of .ensures .0)
-    (o .is-transferring .ensures)
-    (a .is-asking .ensures)
-    (c .before .is-request .ensures)
-    (p .place-of .ensures .1)))
+    let off = c .before in
+    let first = off .before in
+    stands-off (bare (start first .args .n)) (start first .args .g) (first .before .before .before .before .screen-of .result) (first .before .before .before .before .screen-of .ensures) _ (moment first) (off .if1 .left) _ (held first) _ (c .is-request .ensures)))

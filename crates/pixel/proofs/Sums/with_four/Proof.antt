@@ -1,5 +1,6 @@
--- `pixel::Sums::with_four` meets its contract: each channel's four bytes.
-use mathlib.Core.Path.{_≡_, _∙_}
+-- `pixel::Sums::with_four` meets its contract: a channel's four bytes at once.
+use mathlib.Core.Path.{_≡_}
+use native.Mathlib.Omega.{arith}
 use lib.Dec.{lit<}
 use lib.ListN.{length}
 use borrow.Author.Needs.{needs}
@@ -21,24 +22,26 @@ with-four-spec =
     (λ c. lit< tt)
     (λ c κs. tt)
     (λ c κs. tt)
+    (λ c. omega (arith, c .red-and-blue2 .ensures .1, c .before .red-and-blue .ensures .1))
+    (λ c κs. tt)
+    (λ c. omega (arith, c .red-and-blue3 .ensures .1, c .before .red-and-blue2 .ensures .1, c .before .before .red-and-blue .ensures .1))
+    (λ c κs. tt)
+    (λ c. omega (arith, c .red-and-blue4 .ensures .1, c .before .red-and-blue3 .ensures .1, c .before .before .red-and-blue2 .ensures .1, c .before .before .before .red-and-blue .ensures .1))
     (λ c κs. tt)
     (λ c κs. tt)
+    (λ c. omega (arith, c .green-alone2 .ensures .1, c .before .green-alone .ensures .1))
     (λ c κs. tt)
+    (λ c. omega (arith, c .green-alone3 .ensures .1, c .before .green-alone2 .ensures .1, c .before .before .green-alone .ensures .1))
     (λ c κs. tt)
-    (λ c κs. tt)
-    (λ c κs. tt)
-    (λ c κs. tt)
-    (λ c κs. tt)
-    (λ c κs. tt)
-    (λ c κs. tt)
+    (λ c. omega (arith, c .green-alone4 .ensures .1, c .before .green-alone3 .ensures .1, c .before .before .green-alone2 .ensures .1, c .before .before .before .green-alone .ensures .1))
     (λ c κs. tt)
     (λ c κs. tt)
     (λ c κs. tt)
     (λ c.
-    let green = c .before .before .before .before .before in
-    let red = green .before .before .before .before .before in
-    let start = red .before .before .before .before .before .before .before .before .before in
-    four-by (start .args .self) (start .args .t2) (long start) _ _ _
-    (red .four-more .ensures ∙ rw (red .before .red-byte4 .ensures, red .before .before .red-byte3 .ensures, red .before .before .before .red-byte2 .ensures, red .before .before .before .before .red-byte .ensures))
-    (green .four-more2 .ensures ∙ rw (green .before .green-byte4 .ensures, green .before .before .green-byte3 .ensures, green .before .before .before .green-byte2 .ensures, green .before .before .before .before .green-byte .ensures))
-    (c .four-more3 .ensures ∙ rw (c .before .blue-byte4 .ensures, c .before .before .blue-byte3 .ensures, c .before .before .before .blue-byte2 .ensures, c .before .before .before .before .blue-byte .ensures))))
+    let green = c .before .before .before in
+    let both = green .before .before .before .before in
+    let start = both .before .before .before .before .before .before .before .before in
+    rw (c .rolled-sum3 .ensures, c .before .rolled-sum2 .ensures, c .before .before .rolled-sum .ensures)
+    (four-by (start .args .self) (start .args .t2) (long start) _ _
+    (rw (both .red-and-blue4 .ensures .0, both .before .red-and-blue3 .ensures .0, both .before .before .red-and-blue2 .ensures .0, both .before .before .before .red-and-blue .ensures .0))
+    (rw (green .green-alone4 .ensures .0, green .before .green-alone3 .ensures .0, green .before .before .green-alone2 .ensures .0, green .before .before .before .green-alone .ensures .0)))))
