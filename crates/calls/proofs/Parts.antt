@@ -9,16 +9,17 @@ use borrow.Author.Tests.{lt-ltb, ltb-true, ne-eqb, eqb-true}
 use lib.Dec.{ltb, eqb}
 use Rattle.base.proofs.Bools.{below, both-hold}
 use Rattle.registers.specs.declared.Registers.{Registers}
+use Rattle.generator.specs.Counters.{isStart}
 use Rattle.generator.specs.Tick.{tickOf}
 use Rattle.generator.specs.Sound.{Sound}
 use Rattle.generator.specs.declared.Generator.{Generator}
 use Rattle.generator.specs.declared.Ticked.{Ticked}
+use Rattle.generator.specs.declared.Went.{Went}
 use Rattle.generator.proofs.Kept.{tick-sound}
 use Rattle.frame.specs.Frame.{AtStart}
 use Rattle.calls.specs.Calls.{ranOf}
-use Rattle.calls.specs.Runs.{isStart, machineOf, ranIn, Part, Exactly}
+use Rattle.calls.specs.Runs.{machineOf, ranIn, Part, Exactly}
 use Rattle.calls.specs.declared.Ran.{Ran}
-use Rattle.calls.specs.declared.Went.{Went}
 use Rattle.calls.proofs.Running.{ran-refused}
 
 -- the test is the position

@@ -1,17 +1,25 @@
 // A machine's calls with the one condition beside each: the beginning, a write, ticks, its picture's size and its nine checksum bytes.
 ghost use mathlib.Core.Path.{_≡_};
+ghost use mathlib.Core.Bool.{cond};
+ghost use Prim.Native.Nat.{_<_, min};
+ghost use Rattle.control.specs.Control.{running};
+ghost use Rattle.units.specs.Parameters.{screenOf, halvesToVDisplay};
 ghost use Rattle.generator.specs.Sound.{Sound};
-ghost use Rattle.registers.specs.File.{fileOf};
+ghost use Rattle.generator.specs.Stand.{Runs};
+ghost use Rattle.registers.specs.File.{fileOf, bare};
 ghost use Rattle.machine.specs.Rules.{beginning, written};
 ghost use Rattle.calls.specs.Calls.{ranOf, sizeOf};
-ghost use Rattle.calls.specs.Runs.{isStart, Part, Starts, Exactly};
+ghost use Rattle.calls.specs.Runs.{Passes, Part, Starts, Exactly};
 ghost use Rattle.calls.specs.Nine.{nineOf};
 use generator::Generator;
+use generator::Went;
 use machine::Machine;
 use machine::Written;
 use registers::Numbers;
 use registers::Registers;
 use screen::totals;
+use units::HalfLines;
+use units::ScreenUnits;
 
 // The ticks that a `run` has done, its refusal or 0, and the machine after it.
 pub struct Ran {
@@ -43,21 +51,57 @@ pub fn write(m: Machine, address: u32, value: u32) -> Written
     m.write(address, value)
 }
 
-// A generator that is before the first tick of a frame.
-fn is_start(g: Generator) -> bool
-    ensures test { λ b. ⌜ b ≡ isStart g ⌝ }
+// The half lines before VDisplay, of a screen that runs.
+fn dark_halves(n: Numbers) -> u64
+    ensures halves { λ h. ⌜ h ≡ cond (running (n .control)) (halvesToVDisplay (screenOf (n .params))) 0 ⌝ }
 {
-    (g.half.0 == 0) & (g.at.0 == 0)
+    let params = n.params;
+    let s = units::screen_of(params);
+    let halves = s.vpreequalise.0 + s.vsync.0 + s.vpostequalise.0 + s.vblank.0;
+    let runs = control::is_running(n.control);
+    if runs { halves } else { 0 }
 }
 
-// A run with the registers outside: the ticks that it has done, its refusal or 0, and the generator then.
-struct Went {
-    done: u32,
-    refusal: u32,
+// As many as are left, and no more than are due.
+fn fewer(left: u64, due: u32) -> u32
+    ensures fewer { λ r. ⌜ r ≡ min left due ⌝ }
+{
+    if left < due as u64 { left as u32 } else { due }
+}
+
+// Ticks passed over, and the generator after them.
+struct Passed {
+    ticks: u32,
     next: Generator,
 }
 
-// So many ticks, one by one; they end where one is refused and, if that is wanted, at a frame's start.
+// Ticks before VDisplay, as many as are due and no further than its first: nothing shows there, and only the place moves.
+fn pass_dark(n: Numbers, g: Generator, halves: u64, due: u32) -> Passed
+    requires { ⌜ Runs (bare n) g ⌝ }
+    requires { ⌜ (halves ≡ halvesToVDisplay (screenOf (n .params))) × (g .half .0 < halves) × (0 < due) ⌝ }
+    ensures ticks { λ p. ⌜ Passes (screenOf (n .params)) g due p ⌝ }
+{
+    let params = n.params;
+    let s = units::screen_of(params);
+    let line = s.linetime.0 / 2;
+    let number = g.half.0 * line + g.at.0;
+    let left = halves * line - number;
+    let ticks = fewer(left, due);
+    let to = number + ticks as u64;
+    let seen = g.seen;
+    let sums = g.sums;
+    let next = Generator {
+        half: HalfLines(to / line),
+        at: ScreenUnits(to % line),
+        seen,
+        held: g.held,
+        sums,
+        asked: g.asked,
+    };
+    Passed { ticks, next }
+}
+
+// So many ticks, one by one but for those before VDisplay; they end where one is refused and, if that is wanted, at a frame's start.
 fn steps(
     n: Numbers,
     colours: &[u32; 3],
@@ -72,20 +116,27 @@ fn steps(
     ensures part { λ w. ⌜
         Part (fileOf n (now (colours .entry)) (now (palette .entry)) (now (store .entry))) (now (memory .entry)) g count halts w ⌝ }
 {
+    let halves = dark_halves(n);
     let mut now = g;
     let mut done: u32 = 0;
-    while (done < count) & !(halts & is_start(now)) {
-        let t = generator::tick_with(n, colours, palette, store, now, memory);
-        let refusal = t.refusal;
-        now = t.next;
-        if refusal != 0 {
-            return Went {
-                done,
-                refusal,
-                next: now,
-            };
+    while (done < count) & !(halts & generator::is_start(now)) {
+        if now.half.0 < halves {
+            let p = pass_dark(n, now, halves, count - done);
+            done += p.ticks;
+            now = p.next;
+        } else {
+            let t = generator::tick_with(n, colours, palette, store, now, memory);
+            let refusal = t.refusal;
+            now = t.next;
+            if refusal != 0 {
+                return Went {
+                    done,
+                    refusal,
+                    next: now,
+                };
+            }
+            done += 1;
         }
-        done += 1;
     }
     Went {
         done,

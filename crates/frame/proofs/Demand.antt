@@ -30,7 +30,7 @@ use Rattle.generator.proofs.FirstVisible.{frame-some}
 use Rattle.generator.proofs.Rows.{top-used-in, row-number-on}
 use Rattle.frame.proofs.Place.{ticks-some, rows-some, start-number}
 use Rattle.frame.proofs.Rows.{by-four}
-use Rattle.frame.proofs.Whole.{row-lit, unrefused as unrefused-tick, before-tick, by-ticks, whole}
+use Rattle.frame.proofs.Whole.{frame-end-start, row-lit, unrefused as unrefused-tick, before-tick, by-ticks, whole}
 
 -- ---- rows, rounded up
 
@@ -193,20 +193,20 @@ module _ (r : Registers) (m : List ℕ) (g : Generator) (d : Ready r m g) where
   by-frame : (P : ℕ → ℕ → Type 0) → P 0 0 → ((n : ℕ) → n < F → P n (G n .seen .0) → P (suc n) (seenAfter r (G n))) → P F (frameVisible S)
   by-frame P base on = by-ticks r m (d .runs) ok top-in g (d .sound .placed (d .runs)) (d .start) unrefused-picture P base on
 
-  Shown : ℕ → ℕ → Type 0
-  Shown n v = count (isShown r m g) n ≡ v
+  Seen : ℕ → ℕ → Type 0
+  Seen n v = count (isShown r m g) n ≡ v
 
-  shown-first : Shown 0 0
-  unfolding Shown count
-  shown-first = refl
+  seen-first : Seen 0 0
+  unfolding Seen count
+  seen-first = refl
 
-  shown-on : (n : ℕ) → n < F → Shown n (G n .seen .0) → Shown (suc n) (seenAfter r (G n))
-  unfolding Shown count seenAfter
-  shown-on n l e = rw (shown-visible n l, e)
+  seen-on : (n : ℕ) → n < F → Seen n (G n .seen .0) → Seen (suc n) (seenAfter r (G n))
+  unfolding Seen count seenAfter
+  seen-on n l e = rw (shown-visible n l, e)
 
   visible-ticks : count (isShown r m g) F ≡ frameVisible S
-  unfolding Shown
-  visible-ticks = by-frame Shown shown-first shown-on
+  unfolding Seen
+  visible-ticks = by-frame Seen seen-first seen-on
 
   Addressed : ℕ → ℕ → Type 0
   Addressed n v = addressesAnswered r m g n ≡ run (rowAddress r) 0 (roundedUp v (rowLength S))
@@ -294,10 +294,6 @@ module _ (r : Registers) (m : List ℕ) (g : Generator) (d : Ready r m g) where
   frame-ends : G F ≡ frameEnd r m
   frame-ends = frame .end unrefused-picture
 
-  back : AtStart (frameEnd r m)
-  unfolding frameEnd
-  back = record { half = refl; at = refl }
-
   only : (k : ℕ) → 0 < k → k < F → AtStart (G k) → ⊥
   only k p l b =
       let i = before-tick r m (d .runs) ok top-in g (d .sound .placed (d .runs)) (d .start) unrefused-picture k l in
@@ -312,7 +308,7 @@ module _ (r : Registers) (m : List ℕ) (g : Generator) (d : Ready r m g) where
       record {
         unrefused = answered;
         some = ticks-some (r .control) S ok;
-        returns = rw frame-ends back;
+        returns = rw frame-ends (frame-end-start r m);
         not-before = only;
         visible = visible-ticks;
         transfers = counted F ∙ ap length frame-addresses ∙ run-length (λ j. topUsed r + j * increment (r .control)) 0 (frameTransfers S);

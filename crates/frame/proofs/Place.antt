@@ -16,6 +16,7 @@ use Rattle.lines.specs.Lines.{visible, tickNumber, visibleBefore}
 use Rattle.generator.specs.Rows.{screen}
 use Rattle.generator.specs.Tick.{stepWith}
 use Rattle.generator.specs.Sound.{Placed}
+use Rattle.generator.specs.Dark.{ticksToVDisplay}
 use Rattle.generator.specs.declared.Generator.{Generator}
 use Rattle.generator.proofs.VisibleBefore.{dark, visible-next, visible-none, visible-opens, frame-visible}
 use Rattle.generator.proofs.Rows.{row-some}
@@ -87,11 +88,11 @@ module _ (control : ℕ) (s : Screen) (ok : Accepted control s) where
           let last : tickNumber s h u + 1 ≡ frameTicks s = omega (arith, a .number) in
           rw (a .placed .seen-is) (sym (visible-next control s ok h u (a .placed .at-in)) ∙ rw last (frame-visible control s ok))
 
-      pub end-past : halvesToVDisplay s * halfTicks s ≤ n
+      pub end-past : ticksToVDisplay s ≤ n
       end-past = omega (arith, mul-le-mul-right (halfTicks s) in-display, a .number)
 
     -- a visible tick lies in VDisplay
-    pub lit-past : visible s h u ≡ true → halvesToVDisplay s * halfTicks s ≤ n
+    pub lit-past : visible s h u ≡ true → ticksToVDisplay s ≤ n
     lit-past v =
         ⊎-elim
         (λ (p : h < halvesToVDisplay s). let z : true ≡ false = sym v ∙ dark s h u p in absurd (let y : _≡_ {A = ℕ} 0 1 = cc in omega arith))
@@ -103,7 +104,7 @@ module _ (control : ℕ) (s : Screen) (ok : Accepted control s) where
     first-seen p q = a .placed .seen-is ∙ rw (p, q) (visible-opens control s ok)
 
     -- and every other tick from there on a greater number
-    pub first-only : (h ≡ halvesToVDisplay s → ⊥) ⊎ (u ≡ 0 → ⊥) → halvesToVDisplay s * halfTicks s ≤ n → halvesToVDisplay s * halfTicks s < n
+    pub first-only : (h ≡ halvesToVDisplay s → ⊥) ⊎ (u ≡ 0 → ⊥) → ticksToVDisplay s ≤ n → ticksToVDisplay s < n
     first-only other z =
         ⊎-elim
         (λ (p : h < halvesToVDisplay s). absurd (omega (arith, mul-le-mul-right (halfTicks s) p, a .number, a .placed .at-in)))
@@ -113,7 +114,7 @@ module _ (control : ℕ) (s : Screen) (ok : Accepted control s) where
         some-at : (u ≡ 0 → ⊥) → 0 < u
         some-at k = omega arith
 
-        off : halvesToVDisplay s ≤ h → (h ≡ halvesToVDisplay s → ⊥) → halvesToVDisplay s * halfTicks s < n
+        off : halvesToVDisplay s ≤ h → (h ≡ halvesToVDisplay s → ⊥) → ticksToVDisplay s < n
         off p k =
             let q : halvesToVDisplay s + 1 ≤ h = omega arith in
             omega (arith, mul-le-mul-right (halfTicks s) q, a .number, ok .half-holds)

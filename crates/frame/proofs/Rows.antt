@@ -12,7 +12,7 @@ use Rattle.base.specs.Sum.{rolled}
 use Rattle.base.specs.Count.{some, run}
 use Rattle.base.proofs.Run.{run-append, run-same}
 use Rattle.control.specs.Control.{forcedBlank, transferring, increment, pixelBits}
-use Rattle.units.specs.Parameters.{halfTicks, halvesToVDisplay, rowLength}
+use Rattle.units.specs.Parameters.{halvesToVDisplay, rowLength}
 use Rattle.screen.specs.Limits.{Accepted}
 use Rattle.registers.specs.declared.Registers.{Registers}
 use Rattle.memory.specs.Memory.{endsBeyond}
@@ -22,6 +22,7 @@ use Rattle.pixel.proofs.Laws.{summed-join}
 use Rattle.lines.specs.Lines.{opens}
 use Rattle.generator.specs.Rows.{screen, visibleAt, shows, topUsed, taken, transferAt, heldAddress, place}
 use Rattle.generator.specs.Tick.{dotOf, dots, refuses20, cleared, sumsAfter, seenAfter}
+use Rattle.generator.specs.Dark.{ticksToVDisplay}
 use Rattle.generator.specs.declared.Generator.{Generator}
 use Rattle.frame.specs.Frame.{rowAddress, addressAt, placeAt, dotFor, sumsTo}
 use Rattle.frame.proofs.Some.{some-same, some-four, some-and}
@@ -89,10 +90,6 @@ module _ (r : Registers) (ok : Accepted (r .control) (screen r)) (fits : topUsed
         go false l = held-dark l ∙ e
 
   module _ (n : ℕ) (g : Generator) (a : AtTick (screen r) n g) where
-    -- the number of the first tick of VDisplay
-    abbrev U : ℕ
-    U = halvesToVDisplay (screen r) * halfTicks (screen r)
-
     abbrev O : Bool
     O = opens (screen r) (g .half .0) (g .at .0)
 
@@ -105,16 +102,16 @@ module _ (r : Registers) (ok : Accepted (r .control) (screen r)) (fits : topUsed
         go true ex false ey z = absurd (true≢false (sym z))
         go false ex y ey z = absurd (true≢false (sym z))
 
-    opens-past : O ≡ false → U ≤ n → U < n
+    opens-past : O ≡ false → ticksToVDisplay (screen r) ≤ n → ticksToVDisplay (screen r) < n
     unfolding opens
     opens-past p = go (eqb (g .half .0) (halvesToVDisplay (screen r))) refl (eqb (g .at .0) 0) refl p
       where
-        go : (x : Bool) → eqb (g .half .0) (halvesToVDisplay (screen r)) ≡ x → (y : Bool) → eqb (g .at .0) 0 ≡ y → (x && y) ≡ false → U ≤ n → U < n
+        go : (x : Bool) → eqb (g .half .0) (halvesToVDisplay (screen r)) ≡ x → (y : Bool) → eqb (g .at .0) 0 ≡ y → (x && y) ≡ false → ticksToVDisplay (screen r) ≤ n → ticksToVDisplay (screen r) < n
         go false ex y ey z = first-only (r .control) (screen r) ok n g a (_⊎_.inl (eqb-false (g .half .0) (halvesToVDisplay (screen r)) ex))
         go true ex false ey z = first-only (r .control) (screen r) ok n g a (_⊎_.inr (eqb-false (g .at .0) 0 ey))
         go true ex true ey z = absurd (true≢false z)
 
-    pub taken-row : (U < n → g .held ≡ rowAddress r ((g .seen .0 - 1) / R)) → U ≤ n → taken r g ≡ rowAddress r ((g .seen .0 - 1) / R)
+    pub taken-row : (ticksToVDisplay (screen r) < n → g .held ≡ rowAddress r ((g .seen .0 - 1) / R)) → ticksToVDisplay (screen r) ≤ n → taken r g ≡ rowAddress r ((g .seen .0 - 1) / R)
     unfolding taken
     taken-row h p = go O refl
       where
@@ -132,7 +129,7 @@ module _ (r : Registers) (ok : Accepted (r .control) (screen r)) (fits : topUsed
     unfolding sumsTo run summed
     none-first m = none-either (forcedBlank (r .control))
 
-    pub cleared-row : (m : List ℕ) → (U < n → g .sums ≡ sumsTo r m (g .seen .0)) → U ≤ n → cleared r g ≡ sumsTo r m (g .seen .0)
+    pub cleared-row : (m : List ℕ) → (ticksToVDisplay (screen r) < n → g .sums ≡ sumsTo r m (g .seen .0)) → ticksToVDisplay (screen r) ≤ n → cleared r g ≡ sumsTo r m (g .seen .0)
     unfolding cleared
     cleared-row m h p = go O refl
       where

@@ -10,7 +10,7 @@ use lib.Dec.{eqb}
 use Rattle.base.specs.Count.{some, run}
 use Rattle.base.proofs.Run.{run-append}
 use Rattle.control.specs.Control.{running}
-use Rattle.units.specs.Parameters.{halfTicks, halvesToVDisplay, rowLength}
+use Rattle.units.specs.Parameters.{rowLength}
 use Rattle.screen.specs.Limits.{Accepted}
 use Rattle.screen.specs.Totals.{frameTicks, frameVisible}
 use Rattle.units.specs.declared.Screen.{Screen}
@@ -18,6 +18,7 @@ use Rattle.registers.specs.declared.Registers.{Registers}
 use Rattle.lines.specs.Lines.{closes}
 use Rattle.generator.specs.Rows.{screen, visibleAt, topUsed, taken, heldAddress, asks}
 use Rattle.generator.specs.Tick.{dots, refuses20, sumsAfter, seenAfter, stepWith, step, signalsWith, tickRefusal, tickOf, after}
+use Rattle.generator.specs.Dark.{ticksToVDisplay}
 use Rattle.generator.specs.Sound.{Sound, Placed}
 use Rattle.generator.specs.declared.Generator.{Generator}
 use Rattle.generator.proofs.FirstVisible.{frame-some}
@@ -37,35 +38,32 @@ steps r m g (suc n) = step r m (steps r m g n)
 -- the generator before tick n of a frame, registers untouched since the frame's start
 pub record Before (r : Registers) (m : List ℕ) (n : ℕ) (g : Generator) : Type 0 where
   pub at : AtTick (screen r) n g
-  pub held : halvesToVDisplay (screen r) * halfTicks (screen r) < n → g .held ≡ rowAddress r ((g .seen .0 - 1) / rowLength (screen r))
-  pub sums : halvesToVDisplay (screen r) * halfTicks (screen r) < n → g .sums ≡ sumsTo r m (g .seen .0)
+  pub held : ticksToVDisplay (screen r) < n → g .held ≡ rowAddress r ((g .seen .0 - 1) / rowLength (screen r))
+  pub sums : ticksToVDisplay (screen r) < n → g .sums ≡ sumsTo r m (g .seen .0)
   pub asked : 0 < g .seen .0 → g .asked ≡ asks (r .control) (screen r) (g .seen .0 - 1)
 
 module _ (r : Registers) (m : List ℕ) (runs : running (r .control) ≡ true) (ok : Accepted (r .control) (screen r)) (fits : topUsed r ≤ 0xFFFFFF) where
   abbrev S : Screen
   S = screen r
 
-  abbrev U : ℕ
-  U = halvesToVDisplay (screen r) * halfTicks (screen r)
-
   abbrev F : ℕ
   F = frameTicks (screen r)
 
   module _ (n : ℕ) (g : Generator) (i : Before r m n g) where
-    past : visibleAt r g ≡ true → U ≤ n
+    past : visibleAt r g ≡ true → ticksToVDisplay S ≤ n
     unfolding visibleAt
     past l = lit-past (r .control) S ok n g (i .at) l
 
-    row : U ≤ n → taken r g ≡ rowAddress r ((g .seen .0 - 1) / rowLength S)
+    row : ticksToVDisplay S ≤ n → taken r g ≡ rowAddress r ((g .seen .0 - 1) / rowLength S)
     row p = taken-row r ok fits n g (i .at) (i .held) p
 
     pub row-lit : visibleAt r g ≡ true → heldAddress r g ≡ addressAt r (g .seen .0)
     row-lit l = held-lit r ok fits g (row (past l)) l
 
-    row-on : U ≤ n → heldAddress r g ≡ rowAddress r ((seenAfter r g - 1) / rowLength S)
+    row-on : ticksToVDisplay S ≤ n → heldAddress r g ≡ rowAddress r ((seenAfter r g - 1) / rowLength S)
     row-on p = held-row r ok fits g (row p)
 
-    sums-on : U ≤ n → sumsAfter r m g ≡ sumsTo r m (seenAfter r g)
+    sums-on : ticksToVDisplay S ≤ n → sumsAfter r m g ≡ sumsTo r m (seenAfter r g)
     sums-on p = sums-row r m g row-lit (cleared-row r ok fits n g (i .at) m (i .sums) p)
 
     asked-on : 0 < seenAfter r g → cond (visibleAt r g) (asks (r .control) S (g .seen .0)) (g .asked) ≡ asks (r .control) S (seenAfter r g - 1)
@@ -275,6 +273,11 @@ module _ (r : Registers) (m : List ℕ) (runs : running (r .control) ≡ true) (
           colours = coloured;
           end = λ z. ended-by z last last-is;
         }
+
+-- a frame ends at the next one's start
+pub frame-end-start : (r : Registers) (m : List ℕ) → AtStart (frameEnd r m)
+unfolding frameEnd
+frame-end-start r m = record { half = refl; at = refl }
 
 -- A WHOLE FRAME IS ITS TICKS, in every mode
 pub whole : (r : Registers) (m : List ℕ) (g : Generator) → Sound r g → running (r .control) ≡ true → AtStart g → Whole r m g

@@ -10,6 +10,7 @@ use lib.Dec.{eqb}
 use lib.ListN.{length, replicate}
 use lib.Pow.{pow-mono}
 use Rattle.base.specs.Count.{run}
+use Rattle.base.specs.Sum.{capped}
 use Rattle.base.proofs.Run.{run-same}
 use Rattle.control.specs.Control.{running, forcedBlank, transferring, depth, pixelBits}
 use Rattle.screen.specs.Totals.{frameTicks, frameVisible}
@@ -30,11 +31,12 @@ use Rattle.generator.specs.declared.Generator.{Generator}
 use Rattle.generator.proofs.Rows.{top-used-in}
 use Rattle.frame.specs.Frame.{refusedWithin, rowAddress, addressAt, placeAt, dotFor, pixels, pictureRefuses20, sumsTo, frameEnd, Whole}
 use Rattle.frame.proofs.Whole.{whole}
-use Rattle.picture.specs.Picture.{refuses22, pictureRefusal, drawnOf, bufferOf}
+use Rattle.picture.specs.Picture.{bytesFor, refuses22, pictureRefusal, drawnOf, bufferOf}
 use Rattle.picture.specs.Span.{bytesOf, Painted, Through, through, dotThrough}
-use Rattle.picture.specs.Plan.{planOf, Drawable, addressIn, placeIn, dotIn, refusesIn, leftIn, endIn}
+use Rattle.picture.specs.Plan.{planOf, Drawable, Sized, addressIn, placeIn, dotIn, refusesIn, leftIn, endIn}
 use Rattle.picture.specs.declared.plan.Plan.{Plan}
 use Rattle.picture.proofs.span.Spans.{painted-whole}
+use Rattle.picture.proofs.plan.Segments.{visible-most}
 
 -- a pixel of the build's depths is a byte
 bits-small : (m : List ℕ) (from n : ℕ) → bitsAt m from n < 2 ^ n
@@ -109,9 +111,12 @@ module _ (r : Registers) (m : List ℕ) where
       let q : Painted before 0 none (run (dotFor r m) 0 (pixels r)) after s = rw same at (plan-painted p ep table et d) in
       (q .added ∙ simp e, painted-whole (dotFor r m) (pixels r) q n)
 
-  -- the size of the buffer, as the code counts it
+  -- the size of the buffer, as the code counts it: 64 bits hold it
   pub size-link : (p : Plan) → p ≡ planOf r → 12 * p .visible ≡ 3 * pixels r
   size-link p e = rw (e, visible-link) (omega arith)
+
+  size-held : (p : Plan) → Sized p → p ≡ planOf r → capped (bytesFor (4 * p .visible)) ≡ 3 * pixels r
+  size-held p ok e = omega (arith, visible-most p ok, size-link p e)
 
 three : (a b c : Bool) → (not a || not (b && c)) ≡ false → (a ≡ true) × (b ≡ true) × (c ≡ true)
 three true true true e = (refl, refl, refl)
@@ -138,10 +143,10 @@ module _ (r : Registers) (m : List ℕ) (g : Generator) (size : ℕ) (sound : So
   unfolding pictureRefusal
   refusal-22 t = simp (sym ee ∙ t)
 
-  pub refusal-later : early ≡ false → (p : Plan) → p ≡ planOf r → (far : Bool) → far ≡ refusesIn p m → (later n : ℕ) → later ≡ cond far 20 0 → n ≡ cond (not (eqb size (12 * p .visible))) 21 later → n ≡ pictureRefusal r m g size
+  pub refusal-later : early ≡ false → (p : Plan) → Sized p → p ≡ planOf r → (whole : ℕ) → whole ≡ capped (bytesFor (4 * p .visible)) → (far : Bool) → far ≡ refusesIn p m → (later n : ℕ) → later ≡ cond far 20 0 → n ≡ cond (not (eqb size whole)) 21 later → n ≡ pictureRefusal r m g size
   unfolding pictureRefusal
-  refusal-later f p ep far ef later n el en =
-      simp (sym ee ∙ f, refused-link r g sound (sym ee ∙ f) m p ep) (en ∙ rw (el, ef, size-link r m p ep))
+  refusal-later f p ok ep whole ew far ef later n el en =
+      simp (sym ee ∙ f, refused-link r g sound (sym ee ∙ f) m p ep) (en ∙ rw (el, ef, ew, size-held r m p ok ep))
 
 -- no refusal: what that says
 record Free (r : Registers) (m : List ℕ) (g : Generator) (size : ℕ) : Type 0 where

@@ -1,7 +1,7 @@
 -- A whole picture (01, "Refusal numbers", 20 to 22; "Rows and pixels"), in the words of the ticks. r: the registers, m: the picture memory,
 -- g: the generator before it. Assumes nothing.
 use Prim.Native.Nat.{ℕ, _*_}
-use mathlib.Core.Bool.{Bool, not, cond, _&&_, _||_}
+use mathlib.Core.Bool.{Bool, not, cond, _||_}
 use mathlib.Core.List.{List}
 use lib.Dec.{eqb}
 use lib.ListN.{length}
@@ -9,6 +9,7 @@ use Rattle.control.specs.Control.{running}
 use Rattle.screen.specs.Totals.{frameTicks, framePixels}
 use Rattle.registers.specs.declared.Registers.{Registers}
 use Rattle.picture.specs.Span.{bytesOf}
+use Rattle.generator.specs.Counters.{isStart}
 use Rattle.generator.specs.Rows.{screen}
 use Rattle.generator.specs.Tick.{after}
 use Rattle.generator.specs.declared.Generator.{Generator}
@@ -17,11 +18,15 @@ use Rattle.picture.specs.declared.Drawn.{Drawn}
 
 -- 22: asked while stopped or not at a frame start
 abbrev pub refuses22 : Registers → Generator → Bool
-refuses22 r g = not (running (r .control)) || not (eqb (g .half .0) 0 && eqb (g .at .0) 0)
+refuses22 r g = not (running (r .control)) || not (isStart g)
+
+-- the bytes that so many pixels take
+abbrev pub bytesFor : ℕ → ℕ
+bytesFor pixels = 3 * pixels
 
 -- 21: the buffer is not exactly 3 bytes for each visible pixel
 abbrev pub refuses21 : Registers → ℕ → Bool
-refuses21 r size = not (eqb size (3 * framePixels (screen r)))
+refuses21 r size = not (eqb size (bytesFor (framePixels (screen r))))
 
 -- the order for a picture: 22, 21, 20, which is that of one of the frame's ticks
 unfoldable pub pictureRefusal : Registers → List ℕ → Generator → ℕ → ℕ

@@ -10,12 +10,13 @@ ghost use mathlib.Core.Path.{_≡_};
 ghost use Prim.Native.Nat.{_*_};
 ghost use lib.ListN.{length, replicate};
 ghost use Rattle.base.specs.Count.{run};
+ghost use Rattle.base.specs.Sum.{capped};
 ghost use Rattle.screen.specs.Totals.{frameVisible};
 ghost use Rattle.picture.specs.Span.{bytesOf};
 ghost use Rattle.generator.specs.Rows.{screen};
 ghost use Rattle.generator.specs.Sound.{Sound};
 ghost use Rattle.frame.specs.Frame.{pixels, dotFor, sumsTo};
-ghost use Rattle.picture.specs.Picture.{pictureRefusal, drawnOf, bufferOf};
+ghost use Rattle.picture.specs.Picture.{bytesFor, pictureRefusal, drawnOf, bufferOf};
 ghost use Rattle.picture.specs.Plan.{planOf, Drawable, Sized, endIn};
 use crate::plan::Plan;
 use generator::Generator;
@@ -30,17 +31,25 @@ pub struct Drawn {
     pub next: Generator,
 }
 
+// The bytes that so many pixels take: three for each, and the largest number where 64 bits do not hold them.
+pub fn bytes_for(pixels: u64) -> u64
+    ensures bytes { λ r. ⌜ r ≡ capped (bytesFor pixels) ⌝ }
+{
+    base::product(3, pixels)
+}
+
 // The refusal of a picture into `size` bytes, or 0: settled before a byte is written. 22: stopped, or not before the first tick of a frame.
 fn refusal_of(r: Registers, g: Generator, memory: &[u8], size: u64) -> u32
     requires { ⌜ Sound r g ⌝ }
     ensures refusal { λ n. ⌜ n ≡ pictureRefusal r (now (memory .entry)) g size ⌝ }
 {
     let on = control::is_running(r.control);
-    if !on | !((g.half.0 == 0) & (g.at.0 == 0)) {
+    let start = generator::is_start(g);
+    if !on | !start {
         return 22;
     }
     let p = plan::plan_of(r);
-    let wrong = size != 12 * p.visible;
+    let wrong = size != bytes_for(4 * p.visible);
     let far = plan::refuses_20(p, memory);
     base::first(wrong, 21, base::first(far, 20, 0))
 }

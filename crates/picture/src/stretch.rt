@@ -31,14 +31,14 @@ fn edge(a: u64, b: u64, most: u64) -> u64
     most
 }
 
-// The part of a stretch that may lie under the cursor. Columns and lines are counted from -2,048, where a signed position begins.
+// The part of a stretch that may lie under the cursor. Columns and lines are counted as the cursor's first are, from -2,048.
 pub fn clip(control: u32, position: u32, s: Stretch) -> Columns
     ensures clipped { λ c. ⌜ Clipped control position s c ⌝ }
 {
     let count = s.count;
     let on = control::is_cursor_on(control);
-    let first = ((position / 0x1000 % 0x1000 + 2048) % 0x1000) as u64;
-    let top = ((position % 0x1000 + 2048) % 0x1000) as u64;
+    let first = cursor::first_column(position);
+    let top = cursor::first_line(position);
     let column = s.x as u64 + 2048;
     let line = s.y as u64 + 2048;
     if on & (top <= line) & (line < top + 64) {

@@ -244,7 +244,7 @@ fn write_picture(p: Page, picture: &[u8; PICTURE_BYTES], out: &mut [u8; ROOM])
     let head = ppm::put_ppm(out, 0, p.width, p.height);
     io::write_all(1, room::lent(out, head));
     let pixels = base::product(p.width, p.height);
-    let size = base::product(3, pixels);
+    let size = picture::bytes_for(pixels);
     io::write_all(1, room::lent(picture, size as usize));
 }
 

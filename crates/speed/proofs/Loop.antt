@@ -14,12 +14,13 @@ use Rattle.generator.specs.Sound.{Sound}
 use Rattle.generator.specs.declared.Generator.{Generator}
 use Rattle.generator.specs.declared.Ticked.{Ticked}
 use Rattle.generator.proofs.Kept.{tick-sound}
-use Rattle.speed.specs.Ticks.{wordsOf, ticksIn, tickAt, doneOf, refusalOf, wordsAfter, Filled}
+use Rattle.frame.specs.Demand.{answer}
+use Rattle.speed.specs.Ticks.{wordsOf, ticksIn, ticksDone, refusalOf, wordsAfter, Filled}
 
 module _ (r : Registers) (m : List ℕ) (g : Generator) (room : List ℕ) where
   -- so many ticks are done, none refused, and their words stand below place k
   pub record Going (done k : ℕ) (now : Generator) (out : List ℕ) : Type 0 where
-    pub all : doneOf r m g done ≡ done
+    pub all : ticksDone r m g done ≡ done
     pub next : now ≡ after r m g done
     pub place : k ≡ 6 * done
     pub words : out ≡ wordsAfter r m g room done
@@ -27,15 +28,15 @@ module _ (r : Registers) (m : List ℕ) (g : Generator) (room : List ℕ) where
     pub sound : Sound r now
 
   pub going-first : Sound r g → Going 0 0 g room
-  unfolding doneOf after wordsAfter
+  unfolding ticksDone after wordsAfter
   going-first z = record { all = refl; next = refl; place = refl; words = refl; size = refl; sound = z }
 
-  one-more : (n : ℕ) → tickAt r m g (doneOf r m g n) .refusal ≡ 0 → doneOf r m g (suc n) ≡ doneOf r m g n + 1
-  unfolding doneOf
+  one-more : (n : ℕ) → answer r m g (ticksDone r m g n) .refusal ≡ 0 → ticksDone r m g (suc n) ≡ ticksDone r m g n + 1
+  unfolding ticksDone
   one-more n e = rw (eq-eqb _ 0 e)
 
-  none-more : (n : ℕ) → (tickAt r m g (doneOf r m g n) .refusal ≡ 0 → ⊥) → doneOf r m g (suc n) ≡ doneOf r m g n
-  unfolding doneOf
+  none-more : (n : ℕ) → (answer r m g (ticksDone r m g n) .refusal ≡ 0 → ⊥) → ticksDone r m g (suc n) ≡ ticksDone r m g n
+  unfolding ticksDone
   none-more n e = rw (ne-eqb _ 0 e)
 
   module _ (done k : ℕ) (now : Generator) (out : List ℕ) (p : Going done k now out) where
@@ -56,11 +57,11 @@ module _ (r : Registers) (m : List ℕ) (g : Generator) (room : List ℕ) where
 
     module _ (t : Ticked) (et : t ≡ tickOf r m now) where
       -- the tick is the one after those done
-      is-at : t ≡ tickAt r m g done
+      is-at : t ≡ answer r m g done
       is-at = et ∙ ap (tickOf r m) (p .next)
 
-      refusal-at : (n : ℕ) → doneOf r m g n ≡ done → tickAt r m g (doneOf r m g n) .refusal ≡ t .refusal
-      refusal-at n e = ap (λ (x : ℕ). tickAt r m g x .refusal) e ∙ ap (λ (x : Ticked). x .refusal) (sym is-at)
+      refusal-at : (n : ℕ) → ticksDone r m g n ≡ done → answer r m g (ticksDone r m g n) .refusal ≡ t .refusal
+      refusal-at n e = ap (λ (x : ℕ). answer r m g x .refusal) e ∙ ap (λ (x : Ticked). x .refusal) (sym is-at)
 
       pub going-next : t .refusal ≡ 0 → (later : List ℕ) → later ≡ sets out k (wordsOf (t .signals)) → Going (done + 1) (k + 6) (t .next) later
       unfolding after wordsAfter
@@ -75,7 +76,7 @@ module _ (r : Registers) (m : List ℕ) (g : Generator) (room : List ℕ) where
           }
 
       -- past a refused tick nothing is done
-      stays : (t .refusal ≡ 0 → ⊥) → (j : ℕ) → doneOf r m g (done + j) ≡ done
+      stays : (t .refusal ≡ 0 → ⊥) → (j : ℕ) → ticksDone r m g (done + j) ≡ done
       stays n zero = rw add-zero (p .all)
       stays n (suc j) =
           let here = stays n j in
@@ -86,7 +87,7 @@ module _ (r : Registers) (m : List ℕ) (g : Generator) (room : List ℕ) where
       filled-refused n l =
           let count = ticksIn (length room) in
           let split : count ≡ done + (count - done) = omega arith in
-          let here : doneOf r m g count ≡ done = ap (doneOf r m g) split ∙ stays n (count - done) in
+          let here : ticksDone r m g count ≡ done = ap (ticksDone r m g) split ∙ stays n (count - done) in
           let apart : done ≡ count → ⊥ = λ e. absurd (omega (arith, e)) in
           record {
             done = rw here;

@@ -10,10 +10,10 @@ use lib.Seq.{sets}
 use Rattle.registers.specs.declared.Registers.{Registers}
 use Rattle.signals.specs.Signals.{black}
 use Rattle.signals.specs.declared.Signals.{Signals}
-use Rattle.generator.specs.Tick.{tickOf, after}
+use Rattle.generator.specs.Tick.{after}
 use Rattle.generator.specs.declared.Generator.{Generator}
-use Rattle.generator.specs.declared.Ticked.{Ticked}
-use Rattle.speed.specs.declared.Went.{Went}
+use Rattle.generator.specs.declared.Went.{Went}
+use Rattle.frame.specs.Demand.{answer}
 
 -- a level's bit
 abbrev pub bit : Bool → ℕ → ℕ
@@ -35,27 +35,23 @@ wordsOf s = levelsOf s ∷ s .address ∷ colourOf s 0 ∷ colourOf s 1 ∷ colo
 abbrev pub ticksIn : ℕ → ℕ
 ticksIn words = min (words / 6) 0xFFFFFFFF
 
--- what tick n answers, from 0 on
-abbrev pub tickAt : Registers → List ℕ → Generator → ℕ → Ticked
-tickAt r m g n = tickOf r m (after r m g n)
-
 -- how many of n ticks are done: each one that is not refused. A refused tick moves nothing, so that it is refused again
-unfoldable pub doneOf : Registers → List ℕ → Generator → ℕ → ℕ
-doneOf r m g zero = 0
-doneOf r m g (suc n) = cond (eqb (tickAt r m g (doneOf r m g n) .refusal) 0) (doneOf r m g n + 1) (doneOf r m g n)
+unfoldable pub ticksDone : Registers → List ℕ → Generator → ℕ → ℕ
+ticksDone r m g zero = 0
+ticksDone r m g (suc n) = cond (eqb (answer r m g (ticksDone r m g n) .refusal) 0) (ticksDone r m g n + 1) (ticksDone r m g n)
 
 -- 0 where all n are done, and otherwise the refusal of the tick that was not
 unfoldable pub refusalOf : Registers → List ℕ → Generator → ℕ → ℕ
-refusalOf r m g n = cond (eqb (doneOf r m g n) n) 0 (tickAt r m g (doneOf r m g n) .refusal)
+refusalOf r m g n = cond (eqb (ticksDone r m g n) n) 0 (answer r m g (ticksDone r m g n) .refusal)
 
 -- the room after n ticks: six words of each, one tick after another, and all other words as they were
 unfoldable pub wordsAfter : Registers → List ℕ → Generator → List ℕ → ℕ → List ℕ
 wordsAfter r m g room zero = room
-wordsAfter r m g room (suc n) = sets (wordsAfter r m g room n) (6 * n) (wordsOf (tickAt r m g n .signals))
+wordsAfter r m g room (suc n) = sets (wordsAfter r m g room n) (6 * n) (wordsOf (answer r m g n .signals))
 
 -- the ticks done in a room
 abbrev pub doneIn : Registers → List ℕ → Generator → List ℕ → ℕ
-doneIn r m g room = doneOf r m g (ticksIn (length room))
+doneIn r m g room = ticksDone r m g (ticksIn (length room))
 
 -- THE ANSWER: the refusal or 0, and the ticks done, in one number
 abbrev pub answerIn : Registers → List ℕ → Generator → List ℕ → ℕ

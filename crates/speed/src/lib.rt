@@ -10,6 +10,7 @@ ghost use Rattle.picture.specs.Picture.{drawnOf, bufferOf};
 ghost use Rattle.speed.specs.Speed.{file, shown};
 ghost use Rattle.speed.specs.Ticks.{bit, levelsOf, wordsOf, ticksIn, answerIn, wordsIn, sumsIn, Filled};
 use generator::Generator;
+use generator::Went;
 use pixel::Sums;
 use registers::Numbers;
 use registers::Registers;
@@ -124,13 +125,6 @@ fn ticks_in(words: usize) -> u32
         return places as u32;
     }
     0xFFFFFFFF
-}
-
-// The ticks that a loop has done, the refusal that ended it or 0, and the generator then.
-struct Went {
-    done: u32,
-    refusal: u32,
-    next: Generator,
 }
 
 // Ticks for as long as there is room for six words more. A refused one ends them, and writes nothing.

@@ -12,10 +12,10 @@ use Rattle.registers.specs.declared.Numbers.{Numbers}
 use Rattle.registers.specs.declared.Registers.{Registers}
 use Rattle.generator.specs.Sound.{Sound}
 use Rattle.generator.specs.declared.Generator.{Generator}
+use Rattle.generator.specs.declared.Went.{Went}
 use Rattle.calls.specs.Calls.{ranOf}
 use Rattle.calls.specs.Runs.{machineOf, Part, Exactly}
 use Rattle.calls.specs.declared.Ran.{Ran}
-use Rattle.calls.specs.declared.Went.{Went}
 use Rattle.calls.proofs.Frames.{run-joined, run-ended}
 use Rattle.calls.proofs.run.Statement.{statement}
 use Rattle.calls.proofs.run.Tie as tie

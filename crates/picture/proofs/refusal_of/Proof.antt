@@ -1,44 +1,47 @@
 -- `picture::refusal_of` meets its contract: 22, or the later two in their order. Assumes nothing.
-use mathlib.Core.Bool.{false, not, _&&_, _||_}
+use mathlib.Core.Bool.{false, not, _||_}
 use mathlib.Core.Path.{_≡_, sym, _∙_}
 use native.Mathlib.Omega.{arith}
-use lib.Dec.{eqb}
 use Rattle.picture.specs.Picture.{refuses22}
 use Rattle.picture.proofs.plan.Segments.{visible-most}
 use Rattle.picture.proofs.Closed.{drawable, refusal-22, refusal-later}
 use Rattle.picture.proofs.refusal_of.Statement.{statement}
 use Rattle.picture.proofs.refusal_of.Tie as tie
 
-early : (c : tie.After-is-running) →
-    let a = c .before .before .args in (not (c .is-running .result) || not (eqb (a .g .half .0) 0 && eqb (a .g .at .0) 0)) ≡ refuses22 (a .r) (a .g)
-early c = rw (c .is-running .ensures)
+early : (c : tie.After-is-start) →
+    let on = c .before in
+    let a = on .before .before .args in
+    (not (on .is-running .result) || not (c .is-start .result)) ≡ refuses22 (a .r) (a .g)
+early c = rw (c .before .is-running .ensures, c .is-start .ensures)
 
-begins : (c : tie.Else1) → let a = c .before .before .before .before .before .args in refuses22 (a .r) (a .g) ≡ false
-begins c = sym (early (c .before .before .before)) ∙ c .if1 .left
+begins : (c : tie.Else1) → let a = c .before .before .before .before .args in refuses22 (a .r) (a .g) ≡ false
+begins c = sym (early (c .before)) ∙ c .if1 .left
 
 returns : tie.Need-returns
 returns c =
-    let on = c .before .before .before in
-    let start = on .before .before in
-    refusal-22 (start .args .r) (start .args .memory .now) (start .args .g) (start .args .size) (start .pre) _ (early on) (c .if1 .taken)
+    let asked = c .before in
+    let start = asked .before .before .before in
+    refusal-22 (start .args .r) (start .args .memory .now) (start .args .g) (start .args .size) (start .pre) _ (early asked) (c .if1 .taken)
 
 returns-2 : tie.Need-returns-2
 returns-2 c =
-    let p = c .before .before .before .before in
-    let on = p .before .before .before .before in
-    let start = on .before .before in
-    refusal-later (start .args .r) (start .args .memory .now) (start .args .g) (start .args .size) (start .pre) _ (early on) (p .before .if1 .left) _ (p .plan-of .ensures .0)
-    _ (c .before .before .refuses-20 .ensures) _ _ (c .before .first .ensures) (c .first2 .ensures)
+    let p = c .before .before .before .before .before in
+    let asked = p .before .before in
+    let start = asked .before .before .before in
+    refusal-later (start .args .r) (start .args .memory .now) (start .args .g) (start .args .size) (start .pre) _ (early asked) (p .before .if1 .left) _ (p .plan-of .ensures .1) (p .plan-of .ensures .0)
+    _ (c .before .before .before .bytes-for .ensures) _ (c .before .before .refuses-20 .ensures) _ _ (c .before .first .ensures) (c .first2 .ensures)
 
 pub refusal-of-spec : {M : Type 1} → statement M
 refusal-of-spec =
     tie.close
     (tie.spec
     (λ c κs. tt)
+    (λ c κs. tt)
     returns
-    (λ c κs. let start = c .before .before .before .before .before in drawable (start .args .r) (start .args .g) (start .pre) (begins c))
+    (λ c κs. let start = c .before .before .before .before in drawable (start .args .r) (start .args .g) (start .pre) (begins c))
     (λ c. omega (arith, visible-most _ (c .before .plan-of .ensures .1)))
-    (λ c κs. c .before .plan-of .ensures .1)
+    (λ c κs. tt)
+    (λ c κs. c .before .before .plan-of .ensures .1)
     (λ c κs. tt)
     (λ c κs. tt)
     returns-2)

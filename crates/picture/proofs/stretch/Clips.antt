@@ -9,12 +9,12 @@ use borrow.Author.Tests.{lt-ltb, le-ltb, ltb-true, ltb-false, leb-false}
 use lib.Dec.{ltb, leb}
 use lib.IntN.{pos, _-ℤ_}
 use Rattle.control.specs.Control.{field, cursorOn}
-use Rattle.cursor.specs.Cursor.{biased, codeOver}
+use Rattle.cursor.specs.Cursor.{firstColumn, firstLine, codeOver}
 use Rattle.cursor.proofs.Clear.{off, beside, above}
 use Rattle.picture.specs.Stretch.{Clipped}
 use Rattle.picture.specs.declared.stretch.Stretch.{Stretch}
 
-module _ (control position : ℕ) (s : Stretch) (on : Bool) (eo : on ≡ cursorOn control) (first top : ℕ) (ef : first ≡ biased (position / 0x1000 % 0x1000)) (et : top ≡ biased (position % 0x1000)) where
+module _ (control position : ℕ) (s : Stretch) (on : Bool) (eo : on ≡ cursorOn control) (first top : ℕ) (ef : first ≡ firstColumn position) (et : top ≡ firstLine position) where
   pub clip-columns : (left right : ℕ) → left ≡ min (first - (s .x + 2048)) (s .count) → right ≡ min (first + 64 - (s .x + 2048)) (s .count) → Clipped control position s (record { left = left; right = right })
   clip-columns left right el er =
       record {

@@ -1,9 +1,7 @@
 -- `picture::plan::plan_of` meets its contract: the numbers of a frame that may be drawn fit. Assumes nothing.
-use Prim.Native.Nat.{ℕ, _*_, _%_, _^_, _<_}
-use mathlib.Core.Path.{_≡_, _∙_}
-use native.Mathlib.Nat.{one-mul}
+use mathlib.Core.Path.{_≡_}
 use native.Mathlib.Omega.{arith}
-use lib.Pow.{shl-exact}
+use Rattle.memory.proofs.Laws.{one-bit}
 use Rattle.generator.proofs.Bare.{top-bare, divisor-bare}
 use Rattle.screen.specs.Limits.{Bounded}
 use Rattle.screen.proofs.limits.Laws.{narrow}
@@ -19,10 +17,6 @@ bounds c = rw (c .screen-of .ensures) (narrow _ (c .before .before .pre .accepte
 
 planned : (c : tie.After-row-power) → (p : Plan) → p ≡ planOf (c .before .before .before .before .before .before .before .args .r) → (p ≡ planOf (c .before .before .before .before .before .before .before .args .r)) × Sized p
 planned c p e = (e, rw e (sized _ (c .before .before .before .before .before .before .before .pre)))
-
--- one moved up by a few places
-power : (n : ℕ) → n < 32 → 1 * 2 ^ n % 2 ^ 64 ≡ 2 ^ n
-power n h = shl-exact {a = 1} 1 n 64 (omega arith) (omega arith) ∙ one-mul (2 ^ n)
 
 pub plan-of-spec : {M : Type 1} → statement M
 unfolding planOf
@@ -47,4 +41,4 @@ plan-of-spec =
     let lines = made .before .before in
     let r = lines .before .before .before .args .r in
     planned rows _
-    (rw (power _ (rows .row-power .ensures .1), rows .row-power .ensures .0, rows .before .top-used .ensures, made .numbers .ensures, top-bare r, divisor-bare r, lines .displayed-lines .ensures, lines .before .screen-of .ensures, made .before .address-increment .ensures))))
+    (rw (one-bit (rows .row-power .result) (omega (arith, rows .row-power .ensures .1)), rows .row-power .ensures .0, rows .before .top-used .ensures, made .numbers .ensures, top-bare r, divisor-bare r, lines .displayed-lines .ensures, lines .before .screen-of .ensures, made .before .address-increment .ensures))))

@@ -1,6 +1,5 @@
 -- `picture::stretch::clip` meets its contract: outside the columns that it answers the cursor has no code. Assumes nothing.
 use native.Mathlib.Omega.{arith}
-use mathlib.Core.Path.{refl}
 use Rattle.picture.proofs.stretch.Clips.{clip-columns, clip-nothing}
 use Rattle.picture.proofs.stretch.clip.Statement.{statement}
 use Rattle.picture.proofs.stretch.clip.Tie as tie
@@ -10,10 +9,8 @@ clip-spec =
     tie.close
     (tie.spec
     (λ c κs. tt)
-    (λ c. omega arith)
-    (λ c. omega arith)
-    (λ c. omega arith)
-    (λ c. omega arith)
+    (λ c κs. tt)
+    (λ c κs. tt)
     (λ c. omega arith)
     (λ c. omega arith)
     (λ c. omega arith)
@@ -23,10 +20,12 @@ clip-spec =
     (λ c. omega arith)
     (λ c κs. tt)
     (λ c.
-    let on = c .before .before .before .before .before in
+    let top = c .before .before .before .before .before in
+    let on = top .before .before in
     let a = on .before .args in
-    clip-columns (a .control) (a .position) (a .s) _ (on .is-cursor-on .ensures) _ _ refl refl _ _ (c .before .edge .ensures) (c .edge2 .ensures))
+    clip-columns (a .control) (a .position) (a .s) _ (on .is-cursor-on .ensures) _ _ (top .before .first-column .ensures) (top .first-line .ensures) _ _ (c .before .edge .ensures) (c .edge2 .ensures))
     (λ c.
-    let on = c .before .before .before in
+    let top = c .before .before .before in
+    let on = top .before .before in
     let a = on .before .args in
-    clip-nothing (a .control) (a .position) (a .s) _ (on .is-cursor-on .ensures) _ _ refl refl (c .if1 .left)))
+    clip-nothing (a .control) (a .position) (a .s) _ (on .is-cursor-on .ensures) _ _ (top .before .first-column .ensures) (top .first-line .ensures) (c .if1 .left)))
