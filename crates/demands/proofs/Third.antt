@@ -1,22 +1,25 @@
 -- DEMAND 3 holds of every machine that the calls give from the beginning. Assumes nothing.
-use Prim.Native.Nat.{ℕ, zero, suc, _+_, _*_, _≤_}
+use Prim.Native.Nat.{ℕ, zero, suc, _+_, _*_, _≤_, _<_}
 use mathlib.Core.Bool.{Bool, false, not, cond}
 use mathlib.Core.List.{List, [], _∷_, _++_}
 use mathlib.Core.Path.{_≡_, refl, sym, ap, _∙_}
 use native.Mathlib.Nat.{add-zero, add-suc}
 use native.Mathlib.Omega.{arith}
-use borrow.Author.Tests.{eq-eqb}
+use borrow.Author.Tests.{eq-eqb, lt-ltb}
 use lib.ListN.{length}
 use Rattle.base.specs.Count.{count}
 use Rattle.base.proofs.Some.{some-none}
 use Rattle.screen.specs.Totals.{frameTicks, framePixels}
 use Rattle.signals.specs.declared.Signals.{Signals}
+use Rattle.registers.specs.Map.{placeOf}
 use Rattle.registers.specs.declared.Registers.{Registers}
+use Rattle.lines.specs.Lines.{period}
 use Rattle.pixel.specs.Sums.{none, summed}
 use Rattle.generator.specs.Rows.{screen}
 use Rattle.generator.specs.Tick.{tickOf, after}
+use Rattle.generator.specs.Counters.{displaying}
 use Rattle.generator.specs.declared.Generator.{Generator}
-use Rattle.machine.specs.Rules.{beginning, answered, advanced}
+use Rattle.machine.specs.Rules.{beginning, readRefusal, answered, advanced}
 use Rattle.machine.specs.Conditions.{SoundMachine}
 use Rattle.machine.specs.declared.Machine.{Machine}
 use Rattle.frame.specs.Frame.{drawn, refusedWithin, sumsTo, frameEnd}
@@ -149,6 +152,21 @@ unfolding ticked
 ticked-more m memory a zero = rw add-zero
 ticked-more m memory a (suc b) = rw add-suc (ap (λ (x : Machine). advanced x memory .machine) (ticked-more m memory a b))
 
+-- at a frame's start the checksum words can be read: half line 0 lies in PreEqualise
+module _ (m : Machine) (memory : List ℕ) (z : SoundMachine m) (b : Begins m memory) where
+  start-in-flyback : displaying (m .regs) (m .generator) ≡ false
+  unfolding displaying period
+  start-in-flyback =
+      let some = z .accepted (b .running-now) .bounded .vpreequalise .low in
+      simp (b .running-now, lt-ltb (m .generator .half .0) (screen (m .regs) .vpreequalise .0) (omega (arith, b .at-start .half, some)))
+
+  start-answered : (k : ℕ) → k < 3 → answered m (0x0C0 + k) .refusal ≡ 0
+  unfolding answered placeOf readRefusal
+  start-answered zero l = simp start-in-flyback
+  start-answered (suc zero) l = simp start-in-flyback
+  start-answered (suc (suc zero)) l = simp start-in-flyback
+  start-answered (suc (suc (suc k))) l = absurd (omega (arith, l))
+
 -- what a frame leaves is ready for the next, which ends as it did
 module _ (m : Machine) (memory : List ℕ) (z : SoundMachine m) (b : Begins m memory) where
   abbrev left : Machine
@@ -174,6 +192,9 @@ module _ (m : Machine) (memory : List ℕ) (z : SoundMachine m) (b : Begins m me
       ∙ ap (λ (x : Machine). ticked x memory (F m memory z b)) (ticked-generator m memory (F m memory z b))
       ∙ same-end m left memory z left-sound b left-begins refl
 
+  left-answered : (k : ℕ) → k < 3 → answered (ticked m memory (F m memory z b)) (0x0C0 + k) .refusal ≡ 0
+  left-answered k l = ap (λ (x : Machine). answered x (0x0C0 + k) .refusal) (ticked-generator m memory (F m memory z b)) ∙ start-answered left memory left-sound left-begins k l
+
 -- DEMAND 3
 pub demand-3-reached : (calls : List Asked) (m : Machine) → m ≡ afterEvery beginning calls → (memory : List ℕ) → Begins m memory → Demand3 m memory
 demand-3-reached calls m reached memory b =
@@ -196,6 +217,7 @@ demand-3-reached calls m reached memory b =
       pictured-bytes = picture-bytes m memory z b;
       pictured-machine = picture-machine m memory z b;
       pictured-reads = λ buffer size address. ap (λ (x : Machine). answered x address) (picture-machine m memory z b buffer size);
+      checksums-answered = left-answered m memory z b;
       same-end = λ others n met same c. same-end m n memory z (reached-sound others n met) b c same;
       second-frame = second m memory z b;
     }

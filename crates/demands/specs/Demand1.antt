@@ -1,6 +1,7 @@
 -- DEMAND 1: every call ends with an answer; bad input is refused by document 01's number, the first in its order; a refused call leaves the
 -- machine and all lent memory as they were, and answers 0 for all else. m: the machine, any one; the calls without a machine have a record
 -- of their own. Assumes nothing.
+-- That a call ends, and that memory lent for reading only (`&[u8]`) stays as it was, the language sees to: no other function passes its checker.
 use Prim.Native.Nat.{ℕ, _+_, _*_, _^_}
 use mathlib.Core.Bool.{Bool, false, not, cond, _&&_, _||_}
 use mathlib.Core.List.{List, [], _∷_}

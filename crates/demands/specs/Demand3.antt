@@ -91,6 +91,8 @@ pub record Demand3 (m : Machine) (memory : List ℕ) : Type 0 where
   pub pictured-reads :
       (buffer : List ℕ) → length buffer ≡ 3 * framePixels (screen (m .regs)) → (address : ℕ) →
       answered (pictured m memory (length buffer) .machine) address ≡ answered (ticked m memory (frameTicks (screen (m .regs)))) address
+  -- the three checksum words can be read after the frame's ticks, the next being the first of PreEqualise; so they can after the picture
+  pub checksums-answered : (k : ℕ) → k < 3 → answered (ticked m memory (frameTicks (screen (m .regs)))) (0x0C0 + k) .refusal ≡ 0
   -- and the frame's end does not depend on the generator that it began with
   pub same-end :
       (calls : List Asked) (n : Machine) → n ≡ afterEvery beginning calls → n .regs ≡ m .regs → Begins n memory →
