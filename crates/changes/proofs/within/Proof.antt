@@ -5,15 +5,9 @@ use borrow.Author.Tests.{le-leb, lt-leb}
 use Rattle.changes.proofs.within.Statement.{statement}
 use Rattle.changes.proofs.within.Tie as tie
 
-returns : tie.Need-returns
-returns c = (rw (le-leb _ _ (c .if1 .taken)) refl, c .if1 .taken)
-
-returns-2 : tie.Need-returns-2
-returns-2 c = (rw (lt-leb _ _ (c .if1 .left)) refl, omega arith)
-
 pub within-spec : {M : Type 1} → statement M
 within-spec =
     tie.close
     (tie.spec
-    returns
-    returns-2)
+    (λ c. (rw (le-leb _ _ (c .if1 .taken)) refl, c .if1 .taken))
+    (λ c. (rw (lt-leb _ _ (c .if1 .left)) refl, omega arith)))

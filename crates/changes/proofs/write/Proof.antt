@@ -3,15 +3,9 @@ use Rattle.changes.proofs.Laws.{write-done}
 use Rattle.changes.proofs.write.Statement.{statement}
 use Rattle.changes.proofs.write.Tie as tie
 
-write-requires : tie.Need-write-requires
-write-requires c κs = c .pre
-
-returns : tie.Need-returns
-returns c = (write-done _ _ _ _ _ (c .before .write .ensures .0), c .before .write .ensures .1)
-
 pub write-spec : {M : Type 1} → statement M
 write-spec =
     tie.close
     (tie.spec
-    write-requires
-    returns)
+    (λ c κs. c .pre)
+    (λ c. (write-done _ _ _ _ _ (c .before .write .ensures .0), c .before .write .ensures .1)))

@@ -7,27 +7,6 @@ use borrow.Author.Needs.{needs}
 use Rattle.paperwork.proofs.field_of.Statement.{statement}
 use Rattle.paperwork.proofs.field_of.Tie as tie
 
-one-less-requires : tie.Need-one-less-requires
-one-less-requires c κs = search needs
-
-slice-aggregate-bytes-of : tie.Need-slice-aggregate-bytes-of
-slice-aggregate-bytes-of c = search needs
-
-bytes-of-requires : tie.Need-bytes-of-requires
-bytes-of-requires c κs = search needs
-
-slice-aggregate-lent : tie.Need-slice-aggregate-lent
-slice-aggregate-lent c = search needs
-
-lent-requires : tie.Need-lent-requires
-lent-requires c κs = search needs
-
-array-read-field : tie.Need-array-read-field
-array-read-field c = search needs
-
-field-requires : tie.Need-field-requires
-field-requires c κs = search needs
-
 returns : tie.Need-returns
 returns c =
     let values = c .before .before .before .before .before .before .before .before .args .c .left .values in
@@ -38,11 +17,11 @@ pub field-of-spec : {M : Type 1} → statement M
 field-of-spec =
     tie.close
     (tie.spec
-    one-less-requires
-    slice-aggregate-bytes-of
-    bytes-of-requires
-    slice-aggregate-lent
-    lent-requires
-    array-read-field
-    field-requires
+    (λ c κs. search needs)
+    (λ c. search needs)
+    (λ c κs. search needs)
+    (λ c. search needs)
+    (λ c κs. search needs)
+    (λ c. search needs)
+    (λ c κs. search needs)
     returns)

@@ -6,18 +6,6 @@ use borrow.Author.Needs.{needs}
 use Rattle.changes.proofs.lent_memory.change.Statement.{statement}
 use Rattle.changes.proofs.lent_memory.change.Tie as tie
 
-returns : tie.Need-returns
-returns c = let a = c .before .before .before .before .before .before .before .before .args in let e = change-memory (a .c) (a .before) _ _ (c .before .before .before .before .if1 .taken) (c .before .before .fill .ensures .0) in (search needs, (e .0, e .1))
-
-returns-2 : tie.Need-returns-2
-returns-2 c = let a = c .before .before .before .before .before .before .before .before .before .args in let e = change-poke (a .c) (a .before) _ _ (c .before .before .before .before .before .if1 .left) (c .before .before .before .before .if2 .taken) (c .before .before .poked .ensures .0) in (search needs, (e .0, e .1))
-
-returns-3 : tie.Need-returns-3
-returns-3 c = let a = c .before .before .before .before .before .before .before .before .before .before .args in let e = change-fill (a .c) (a .before) _ _ (c .before .before .before .before .before .before .if1 .left) (c .before .before .before .before .if3 .taken) (c .before .before .filled .ensures .0) in (search needs, (e .0, e .1))
-
-returns-4 : tie.Need-returns-4
-returns-4 c = let a = c .before .before .before .before .before .before .args in let e = change-other (a .c) (a .before) _ _ (c .before .before .if1 .left) (c .before .if2 .left) (c .if3 .left) refl in (refl, (e .0, e .1))
-
 pub change-spec : {M : Type 1} → statement M
 change-spec =
     tie.close
@@ -26,11 +14,11 @@ change-spec =
     (λ c. search needs)
     (λ c κs. tt)
     (λ c. search needs)
-    returns
+    (λ c. let a = c .before .before .before .before .before .before .before .before .args in let e = change-memory (a .c) (a .before) _ _ (c .before .before .before .before .if1 .taken) (c .before .before .fill .ensures .0) in (search needs, (e .0, e .1)))
     (λ c κs. tt)
     (λ c. search needs)
-    returns-2
+    (λ c. let a = c .before .before .before .before .before .before .before .before .before .args in let e = change-poke (a .c) (a .before) _ _ (c .before .before .before .before .before .if1 .left) (c .before .before .before .before .if2 .taken) (c .before .before .poked .ensures .0) in (search needs, (e .0, e .1)))
     (λ c κs. tt)
     (λ c. search needs)
-    returns-3
-    returns-4)
+    (λ c. let a = c .before .before .before .before .before .before .before .before .before .before .args in let e = change-fill (a .c) (a .before) _ _ (c .before .before .before .before .before .before .if1 .left) (c .before .before .before .before .if3 .taken) (c .before .before .filled .ensures .0) in (search needs, (e .0, e .1)))
+    (λ c. let a = c .before .before .before .before .before .before .args in let e = change-other (a .c) (a .before) _ _ (c .before .before .if1 .left) (c .before .if2 .left) (c .if3 .left) refl in (refl, (e .0, e .1))))

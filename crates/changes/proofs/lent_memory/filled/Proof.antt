@@ -3,9 +3,6 @@ use borrow.Author.Needs.{needs}
 use Rattle.changes.proofs.lent_memory.filled.Statement.{statement}
 use Rattle.changes.proofs.lent_memory.filled.Tie as tie
 
-returns : tie.Need-returns
-returns c = let f = c .before .before .fill .ensures in (f .0, f .1)
-
 pub filled-spec : {M : Type 1} → statement M
 filled-spec =
     tie.close
@@ -18,4 +15,4 @@ filled-spec =
     (λ c. search needs)
     (λ c κs. search needs)
     (λ c. search needs)
-    returns)
+    (λ c. let f = c .before .before .fill .ensures in (f .0, f .1)))

@@ -16,22 +16,13 @@ Inv-loop numbers sheet₀ k₀ sheet k = (k ≤ 14) × (sheet ≡ laid (λ j. ge
 abbrev μ-loop : tie.MeasureT-loop
 μ-loop numbers sheet₀ k₀ sheet k = 14 - k
 
-loop-holds : tie.Need-loop-holds Inv-loop μ-loop
-loop-holds c = (omega arith, laid-none _ _ _)
-
-loop-again : tie.Need-loop-again Inv-loop μ-loop
-loop-again c = (omega arith, rw (zero-add (c .before .loop .k)) at (laid-next _ _ _ _ _ _ (c .before .loop .inv .1) refl))
-
-returns : tie.Need-returns Inv-loop μ-loop
-returns c = let e : c .before .loop .k ≡ 14 = omega arith in rw e at (c .before .loop .inv .1)
-
 pub sheet-values-spec : {M : Type 1} → statement M
 sheet-values-spec =
     tie.close
     (tie.spec
     Inv-loop
     μ-loop
-    loop-holds
+    (λ c. (omega arith, laid-none _ _ _))
     (λ c. omega arith)
     (λ c. omega arith)
     (λ c. search needs)
@@ -39,5 +30,5 @@ sheet-values-spec =
     (λ c. search needs)
     (λ c. omega arith)
     (λ c. search needs)
-    loop-again
-    returns)
+    (λ c. (omega arith, rw (zero-add (c .before .loop .k)) at (laid-next _ _ _ _ _ _ (c .before .loop .inv .1) refl)))
+    (λ c. let e : c .before .loop .k ≡ 14 = omega arith in rw e at (c .before .loop .inv .1)))
