@@ -1,22 +1,35 @@
-// Control A (01, "Register map"): which words are in the build, and what their bits mean. Any number may be asked about.
+// Control A (01, "Register map"; 02, Q-4): which words are in the build, and what their bits mean. Any number may be asked about.
 ghost use mathlib.Core.Path.{_≡_};
 ghost use Prim.Native.Nat.{_^_, _<_};
-ghost use Rattle.control.specs.Control.{field, running, plain, forcedBlank, transferring, cursorOn, outside, depth, shiftPeriod, increment};
+ghost use Rattle.control.specs.Control.{running, interlaced, plain, forcedBlank, transferring, cursorOn, outside, depth, shiftPeriod, incrementCode, increment, offset, rowDivisor};
 
 // In screen units, by depth: 1, 2, 4 and 8 bits.
 const SHIFT_PERIODS: [u32; 4] = [16, 8, 4, 2];
 
-// By bits 13 and 12.
+// By bits 13 and 12: not interlaced, interlaced, and what is added to top for the second field.
 const INCREMENTS: [u32; 4] = [1, 256, 512, 1024];
 
-// The same as powers of two.
+const INTERLACED_INCREMENTS: [u32; 4] = [1, 2, 512, 1024];
+
+const OFFSETS: [u32; 4] = [1, 1, 256, 512];
+
+// The row's divisors as powers of two: not interlaced, and interlaced.
 const INCREMENT_POWERS: [u32; 4] = [0, 8, 9, 10];
+
+const OFFSET_POWERS: [u32; 4] = [0, 0, 8, 9];
 
 // Bit 0: the generator runs.
 pub fn is_running(control: u32) -> bool
     ensures bit { λ r. ⌜ r ≡ running control ⌝ }
 {
     control / 0x1 % 2 == 1
+}
+
+// Bit 1: the screen is interlaced.
+pub fn is_interlaced(control: u32) -> bool
+    ensures bit { λ r. ⌜ r ≡ interlaced control ⌝ }
+{
+    control / 0x2 % 2 == 1
 }
 
 // Bit 4: plain flyback sync; tesselated where it is 0.
@@ -51,8 +64,7 @@ pub fn is_cursor_on(control: u32) -> bool
 pub fn is_outside(control: u32) -> bool
     ensures refusal { λ r. ⌜ r ≡ outside control ⌝ }
 {
-    (control / 0x2 % 2 != 0)
-        | (control / 0x8 % 2 != 0)
+    (control / 0x8 % 2 != 0)
         | (control / 0x800 % 2 != 0)
         | (control / 0x8000 % 0x20 != 0)
         | (control / 0x400000 % 2 != 0)
@@ -73,9 +85,9 @@ pub fn shift_period(control: u32) -> u32
     SHIFT_PERIODS[depth]
 }
 
-// Bits 13 and 12: 0, 1, 2 and 3 for the increments of the table.
+// Bits 13 and 12: 0, 1, 2 and 3 for the rows of the tables.
 fn increment_code(control: u32) -> u32
-    ensures code { λ r. ⌜ r ≡ field 12 2 control ⌝ }
+    ensures code { λ r. ⌜ r ≡ incrementCode control ⌝ }
 {
     control / 0x1000 % 4
 }
@@ -85,14 +97,30 @@ pub fn address_increment(control: u32) -> u32
     ensures increment { λ r. ⌜ r ≡ increment control ⌝ }
 {
     let code = increment_code(control) as usize;
+    let interlaced = is_interlaced(control);
+    if interlaced {
+        return INTERLACED_INCREMENTS[code];
+    }
     INCREMENTS[code]
 }
 
-// The power of two that it is, so that an address is divided by it by a shift.
-pub fn increment_power(control: u32) -> u32
-    ensures power { λ r. ⌜ 2 ^ r ≡ increment control ⌝ }
+// What is added to top for the second field.
+pub fn field_offset(control: u32) -> u32
+    ensures offset { λ r. ⌜ r ≡ offset control ⌝ }
+{
+    let code = increment_code(control) as usize;
+    OFFSETS[code]
+}
+
+// The row's divisor as the power of two that it is, so that an address is divided by it by a shift.
+pub fn divisor_power(control: u32) -> u32
+    ensures power { λ r. ⌜ 2 ^ r ≡ rowDivisor control ⌝ }
     ensures bound { λ r. ⌜ r < 32 ⌝ }
 {
-    let place = increment_code(control) as usize;
-    INCREMENT_POWERS[place]
+    let code = increment_code(control) as usize;
+    let interlaced = is_interlaced(control);
+    if interlaced {
+        return OFFSET_POWERS[code];
+    }
+    INCREMENT_POWERS[code]
 }

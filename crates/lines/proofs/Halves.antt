@@ -1,21 +1,31 @@
 -- Which half of its line a half line is, and which line: laws for callers, who need not know where lines count from. Assumes nothing.
-use Prim.Native.Nat.{ℕ, _+_, _/_, _%_, _≤_}
+use Prim.Native.Nat.{ℕ, _+_, _-_, _*_, _/_, _%_, _≤_}
 use mathlib.Core.Bool.{Bool, true, false, cond}
 use mathlib.Core.Path.{_≡_, refl}
+use native.Mathlib.Nat.{mul-le-mul-right}
 use native.Mathlib.Omega.{arith}
 use borrow.Author.Tests.{eq-eqb, ne-eqb, eqb-true, eqb-false}
 use lib.Dec.{eqb}
-use Rattle.units.specs.Parameters.{halfTicks, halvesToVBlank}
+use Rattle.units.specs.Parameters.{halfTicks, halvesToVBlank, halvesToVDisplay, halvesInField}
 use Rattle.units.specs.declared.Screen.{Screen}
-use Rattle.lines.specs.Lines.{lineFrom, lineOf, secondHalf, inLine}
+use Rattle.lines.specs.Lines.{lineFrom, lineOf, secondHalf, inLine, linesAbove, columnOf, fieldVisible}
 
 module _ (s : Screen) where
   -- with k half lines since VBlank's first, a half line is the first half of its line exactly when k is even
-  pub second-since-vblank : (k : ℕ) → secondHalf s (halvesToVBlank s + k) ≡ eqb (k % 2) 1
+  pub second-since-vblank : s .interlaced ≡ false → (k : ℕ) → secondHalf s (halvesToVBlank s + k) ≡ eqb (k % 2) 1
   unfolding secondHalf lineFrom
-  second-since-vblank k =
+  second-since-vblank n k =
       let e : (halvesToVBlank s + k + halvesToVBlank s) % 2 ≡ k % 2 = omega arith in
-      rw e
+      simp n (rw e)
+
+  -- interlaced, half lines are numbered through the frame: an odd one is the second half of its line
+  pub second-through : s .interlaced ≡ true → (h : ℕ) → secondHalf s h ≡ eqb ((h + cond (s .second) (halvesInField s) 0) % 2) 1
+  unfolding secondHalf lineFrom
+  second-through n h = simp n
+
+  pub line-through : s .interlaced ≡ true → (h : ℕ) → lineOf s h ≡ (h + cond (s .second) (halvesInField s) 0) / 2
+  unfolding lineOf lineFrom
+  line-through n h = simp n
 
   -- an even number of half lines on, a tick stands in its line as before
   pub in-line-even : (h k u : ℕ) → k % 2 ≡ 0 → inLine s (h + k) u ≡ inLine s h u
@@ -85,3 +95,15 @@ module _ (s : Screen) where
         go : (t : Bool) → secondHalf s h ≡ t → inLine s h 0 ≤ inLine s h′ u
         go false e = omega (arith, first-in h e 0)
         go true e = rw (← (same-half e q)) (omega (arith, second-in h e 0, second-in h e u))
+
+  -- a half line has no more lines above it than half lines
+  pub lines-above-most : (h : ℕ) → linesAbove s h ≤ h
+  unfolding linesAbove lineOf
+  lines-above-most h = omega arith
+
+  -- a field shows no more than a line for each half line of VDisplay, and one
+  pub visible-most : fieldVisible s ≤ (s .vdisplay .0 + 1) * s .display .0
+  unfolding fieldVisible linesAbove lineOf columnOf
+  visible-most =
+      let lines : (halvesInField s + lineFrom s) / 2 - (halvesToVDisplay s + lineFrom s) / 2 ≤ s .vdisplay .0 = omega arith in
+      omega (arith, mul-le-mul-right (s .display .0) lines)

@@ -1,10 +1,10 @@
-// Where a tick stands (01, "Lines and frames"): its period, its line, its sync, and the tick after it.
+// Where a tick stands (01, "Lines and frames"; 02, Q-4): its period, its line, its sync, and the tick after it; and what a field shows in all.
 ghost use mathlib.Core.Path.{_≡_};
-ghost use mathlib.Core.Bool.{cond};
-ghost use Prim.Native.Nat.{_-_, _<_};
+ghost use mathlib.Core.Bool.{false, cond};
+ghost use Prim.Native.Nat.{_+_, _-_, _^_, _<_, min};
 ghost use lib.Dec.{ltb};
-ghost use Rattle.units.specs.Parameters.{screenOf};
-ghost use Rattle.lines.specs.Lines.{period, isVDisplay, lowIn, endsOf, momentOf};
+ghost use Rattle.units.specs.Parameters.{screenOf, inField, displayFrom, halvesToVBlank, halvesInField};
+ghost use Rattle.lines.specs.Lines.{period, isVDisplay, lineFrom, inLine, lead, lowIn, endsOf, fieldVisible, momentOf};
 ghost use Rattle.lines.specs.declared.Period.the-variants.{PreEqualise, VSync, PostEqualise, VBlank, VDisplay};
 use units::Screen;
 
@@ -17,8 +17,8 @@ pub enum Period {
     VDisplay,
 }
 
-// What a place in the frame says of its tick: it lies in VSync, in VDisplay; it is visible; sync is low; it is the first tick of VDisplay, or
-// the frame's last. Its column and its line, as a visible tick has them. And the place after it: its half line and its number there.
+// What a place in a field says of its tick: it lies in VSync, in VDisplay; it is visible; sync is low; it is the first tick of VDisplay, or
+// the field's last. Its column and its line, as a visible tick has them. And the place after it: its field, its half line and its number there.
 pub struct Moment {
     pub vsyncing: bool,
     pub vdisplaying: bool,
@@ -28,6 +28,7 @@ pub struct Moment {
     pub closes: bool,
     pub column: u64,
     pub line: u64,
+    pub second: bool,
     pub half: u64,
     pub at: u64,
 }
@@ -96,36 +97,51 @@ fn low_at(s: Screen, ends: Ends, plain: bool, half: u64, at: u64, tick: u64) -> 
     )
 }
 
-// A half line lies in VDisplay.
+// A half line of either field lies in VDisplay.
 pub fn is_vdisplay(params: [u32; 14], half: u32) -> bool
-    ensures test { λ b. ⌜ b ≡ isVDisplay (period (screenOf params) half) ⌝ }
+    ensures test { λ b. ⌜ b ≡ isVDisplay (period (screenOf params false) half) ⌝ }
 {
-    let s = units::screen_of(params);
+    let s = units::screen_of(params, false);
     let blank = s.vpreequalise.0 + s.vsync.0 + s.vpostequalise.0 + s.vblank.0;
     blank <= half as u64
 }
 
-// The moment of a place: half is the half line's number in the frame, at the tick's in the half line. Any numbers: none can overflow.
-pub fn moment_of(params: [u32; 14], plain: bool, half: u32, at: u32) -> Moment
-    ensures moment { λ m. ⌜ m ≡ momentOf (screenOf params) plain half at ⌝ }
+// What is added to a half line's number in its field, so that an even sum is the first half of a line: `post` half lines come before VBlank,
+// `all` are in the field.
+fn origin_of(s: Screen, post: u64, all: u64) -> u64
+    requires { ⌜ (post ≡ halvesToVBlank s) × (all ≡ halvesInField s) ⌝ }
+    ensures halves { λ r. ⌜ r ≡ lineFrom s ⌝ }
 {
-    let s = units::screen_of(params);
+    base::choose(s.interlaced, base::choose(s.second, all, 0), post)
+}
+
+// The moment of a place: half is the half line's number in the field, at the tick's in the half line. Any numbers: none can overflow.
+pub fn moment_of(
+    params: [u32; 14],
+    interlaced: bool,
+    second: bool,
+    plain: bool,
+    half: u32,
+    at: u32,
+) -> Moment
+    ensures moment { λ m. ⌜ m ≡ momentOf (inField second (screenOf params interlaced)) plain half at ⌝ }
+{
+    let s = units::in_field(units::screen_of(params, interlaced), second);
     let line = s.linetime.0 / 2;
     let pre = s.vpreequalise.0;
     let sync = pre + s.vsync.0;
     let post = sync + s.vpostequalise.0;
     let blank = post + s.vblank.0;
-    let frame = blank + s.vdisplay.0;
+    let field = blank + s.vdisplay.0;
     let from = 2 * s.halfsync.0 + s.backporch.0;
     let to = from + s.display.0;
     let number = half as u64;
     let place = at as u64;
-    // full lines count from VBlank's first half line
-    let line_from = post;
-    let second = (number + line_from) % 2 == 1;
-    let tick = base::choose(second, line + place, place);
-    let first = (blank + line_from) / 2;
-    let below = past((number + line_from) / 2, first);
+    let origin = origin_of(s, post, field);
+    let late = (number + origin) % 2 == 1;
+    let tick = base::choose(late, line + place, place);
+    let first = (blank + origin) / 2;
+    let below = past((number + origin) / 2, first);
     let column = past(tick, from);
     let ends = Ends {
         pre,
@@ -137,17 +153,59 @@ pub fn moment_of(params: [u32; 14], plain: bool, half: u32, at: u32) -> Moment
     let later = number + 1;
     let after = place + 1;
     let stays = after < line;
-    let next = base::choose(later < frame, later, 0);
+    let closes = (field <= later) & (line <= after);
+    let next = base::choose(later < field, later, 0);
     Moment {
         vsyncing: (pre <= number) & (number < sync),
         vdisplaying,
         visible: vdisplaying & ((from <= tick) & (tick < to)),
         low: low_at(s, ends, plain, number, place, tick),
         opens: (number == blank) & (place == 0),
-        closes: (frame <= later) & (line <= after),
+        closes,
         column,
         line: below,
+        second: base::level(closes, s.interlaced & !s.second, s.second),
         half: base::choose(stays, number, next),
         at: base::choose(stays, after, 0),
+    }
+}
+
+// What a field shows: Display ticks of its first line before its VDisplay, and its visible ticks.
+pub struct Shown {
+    pub lead: u64,
+    pub visible: u64,
+}
+
+// Of Display, what lies before the first tick of a half line.
+fn begun(s: Screen, half: u64, origin: u64) -> u64
+    requires { ⌜ (origin ≡ lineFrom s) × (half + origin < 2 ^ 40) × (s .halfsync .0 < 2 ^ 32) × (s .backporch .0 < 2 ^ 32) ⌝ }
+    ensures ticks { λ r. ⌜ r ≡ min (s .display .0) (inLine s half 0 - displayFrom s) ⌝ }
+{
+    let late = (half + origin) % 2 == 1;
+    let tick = base::choose(late, s.linetime.0 / 2, 0);
+    let past = past(tick, 2 * s.halfsync.0 + s.backporch.0);
+    if past < s.display.0 {
+        past
+    } else {
+        s.display.0
+    }
+}
+
+// A field's lead and its visible ticks. Any numbers: none can overflow.
+pub fn shown_in(params: [u32; 14], interlaced: bool, second: bool) -> Shown
+    ensures lead { λ r. ⌜ r .lead ≡ lead (inField second (screenOf params interlaced)) ⌝ }
+    ensures visible { λ r. ⌜ r .visible ≡ fieldVisible (inField second (screenOf params interlaced)) ⌝ }
+{
+    let s = units::in_field(units::screen_of(params, interlaced), second);
+    let post = s.vpreequalise.0 + s.vsync.0 + s.vpostequalise.0;
+    let blank = post + s.vblank.0;
+    let field = blank + s.vdisplay.0;
+    let origin = origin_of(s, post, field);
+    let lead = begun(s, blank, origin);
+    let lines = past((field + origin) / 2, (blank + origin) / 2);
+    let all = lines * s.display.0 + begun(s, field, origin);
+    Shown {
+        lead,
+        visible: past(all, lead),
     }
 }

@@ -9,8 +9,8 @@ pub fn is_asking(on: bool, meminit: u64, rest: u64) -> bool
     on & (meminit <= rest)
 }
 
-// What is known of a tick. Row transfers are on, the tick is visible; what a visible tick asks, and whether this one leads, before the frame's
-// first visible one; the frame's visible ticks so far, and all of them; what the last visible tick asked.
+// What is known of a tick. Row transfers are on, the tick is visible; what a visible tick asks, and whether this one leads, before the field's
+// first visible one; the field's visible ticks so far, and all of them; what the last visible tick asked.
 pub struct Known {
     pub on: bool,
     pub visible: bool,

@@ -1,10 +1,10 @@
--- Refusals 10 to 17 (01, "Refusal numbers"): when a screen may start. Assumes nothing.
+-- Refusals 10 to 18 (01, "Refusal numbers"; 02, Q-4): when a screen may start. Assumes nothing.
 use Prim.Native.Nat.{ℕ, _+_, _%_, _<_, _≤_}
 use mathlib.Core.Path.{_≡_}
-use mathlib.Core.Bool.{Bool, not, cond, _||_}
+use mathlib.Core.Bool.{Bool, true, false, not, cond, _&&_, _||_}
 use lib.Dec.{ltb, eqb}
 use Rattle.control.specs.Control.{shiftPeriod}
-use Rattle.units.specs.Parameters.{displayFrom, halfTicks}
+use Rattle.units.specs.Parameters.{displayFrom, halfTicks, halvesInField}
 use Rattle.units.specs.declared.Screen.{Screen}
 use Rattle.screen.specs.Range.{most, refuses10}
 
@@ -28,15 +28,19 @@ refuses14 s = not (ltb (s .broadpulse .0) (halfTicks s))
 abbrev pub refuses15 : ℕ → Screen → Bool
 refuses15 control s = not (eqb (s .display .0 % shiftPeriod control) 0)
 
--- 16: VDisplay or VBlank is odd
+-- 16, not interlaced: VDisplay or VBlank is odd
 abbrev pub refuses16 : Screen → Bool
-refuses16 s = eqb (s .vdisplay .0 % 2) 1 || eqb (s .vblank .0 % 2) 1
+refuses16 s = not (s .interlaced) && (eqb (s .vdisplay .0 % 2) 1 || eqb (s .vblank .0 % 2) 1)
 
 -- 17: TransferDelay is not below BackPorch - 1 (one more is not below BackPorch), or above ShortDisplay
 abbrev pub refuses17 : Screen → Bool
 refuses17 s = not (ltb (s .transferdelay .0 + 1) (s .backporch .0)) || ltb (s .shortdisplay .0) (s .transferdelay .0)
 
--- the lowest of 11 to 17 that holds, or 0
+-- 18, interlaced: VDisplay is even, or a field has an even number of half lines
+abbrev pub refuses18 : Screen → Bool
+refuses18 s = s .interlaced && (eqb (s .vdisplay .0 % 2) 0 || eqb (halvesInField s % 2) 0)
+
+-- the lowest of 11 to 18 that holds, or 0
 unfoldable pub laterLimit : ℕ → Screen → ℕ
 laterLimit control s =
     cond (refuses11 s) 11
@@ -46,9 +50,10 @@ laterLimit control s =
     (cond (refuses15 control s) 15
     (cond (refuses16 s) 16
     (cond (refuses17 s) 17
-    0))))))
+    (cond (refuses18 s) 18
+    0)))))))
 
--- the lowest of 10 to 17 that holds, or 0
+-- the lowest of 10 to 18 that holds, or 0
 unfoldable pub limitOf : ℕ → Screen → ℕ
 limitOf control s = cond (refuses10 s) 10 (laterLimit control s)
 
@@ -73,7 +78,7 @@ pub record Bounded (largest : ℕ) (s : Screen) : Type 0 where
   pub meminit : Within largest (s .meminit .0)
   pub transferdelay : Within largest (s .transferdelay .0)
 
--- what a screen keeps that may start: none of 10 to 17 holds
+-- what a screen keeps that may start: none of 10 to 18 holds
 pub record Accepted (control : ℕ) (s : Screen) : Type 0 where
   pub bounded : Bounded most s
   pub line-even : s .linetime .0 % 2 ≡ 0
@@ -81,7 +86,9 @@ pub record Accepted (control : ℕ) (s : Screen) : Type 0 where
   pub half-holds : displayFrom s + s .shortdisplay .0 < halfTicks s
   pub pulse-holds : s .broadpulse .0 < halfTicks s
   pub shifts-whole : s .display .0 % shiftPeriod control ≡ 0
-  pub display-even : s .vdisplay .0 % 2 ≡ 0
-  pub blank-even : s .vblank .0 % 2 ≡ 0
+  pub display-even : s .interlaced ≡ false → s .vdisplay .0 % 2 ≡ 0
+  pub blank-even : s .interlaced ≡ false → s .vblank .0 % 2 ≡ 0
   pub delay-below : s .transferdelay .0 + 1 < s .backporch .0
   pub delay-short : s .transferdelay .0 ≤ s .shortdisplay .0
+  pub display-odd : s .interlaced ≡ true → s .vdisplay .0 % 2 ≡ 1
+  pub halves-odd : s .interlaced ≡ true → halvesInField s % 2 ≡ 1

@@ -1,6 +1,6 @@
-// A screen's counts in three units (01, "Starting a screen") and its fourteen parameters (01, "Register map").
+// A screen's counts in three units (01, "Starting a screen") and its fourteen parameters (01, "Register map"), in both formats (02, Q-4).
 ghost use mathlib.Core.Path.{_≡_};
-ghost use Rattle.units.specs.Parameters.{screenOf, displayedLines};
+ghost use Rattle.units.specs.Parameters.{screenOf, inField, displayedLines};
 
 // Three counts that never stand in for one another. One screen unit is one tick.
 pub struct ScreenUnits(pub u64);
@@ -9,7 +9,7 @@ pub struct HalfLines(pub u64);
 
 pub struct Pixels(pub u64);
 
-// The fourteen parameters, in register order.
+// The fourteen parameters, in register order; the format, and which of its fields is meant.
 pub struct Screen {
     pub halfsync: ScreenUnits,
     pub backporch: ScreenUnits,
@@ -25,11 +25,13 @@ pub struct Screen {
     pub linestart: ScreenUnits,
     pub meminit: ScreenUnits,
     pub transferdelay: ScreenUnits,
+    pub interlaced: bool,
+    pub second: bool,
 }
 
-// The registers #021 to #02E as a screen.
-pub fn screen_of(params: [u32; 14]) -> Screen
-    ensures screen { λ r. ⌜ r ≡ screenOf params ⌝ }
+// The registers #021 to #02E as a screen of a format, its first field.
+pub fn screen_of(params: [u32; 14], interlaced: bool) -> Screen
+    ensures screen { λ r. ⌜ r ≡ screenOf params interlaced ⌝ }
 {
     Screen {
         halfsync: ScreenUnits(params[0] as u64),
@@ -46,12 +48,27 @@ pub fn screen_of(params: [u32; 14]) -> Screen
         linestart: ScreenUnits(params[11] as u64),
         meminit: ScreenUnits(params[12] as u64),
         transferdelay: ScreenUnits(params[13] as u64),
+        interlaced,
+        second: false,
     }
 }
 
-// The lines of a frame that are displayed: a line is two half lines.
+// A screen's first field or its second.
+pub fn in_field(s: Screen, second: bool) -> Screen
+    ensures screen { λ r. ⌜ r ≡ inField second s ⌝ }
+{
+    let mut field = s;
+    field.second = second;
+    field
+}
+
+// The lines of a frame that are displayed: a line is two half lines, and an interlaced frame has the half lines of two fields.
 pub fn displayed_lines(s: Screen) -> u64
     ensures lines { λ r. ⌜ r ≡ displayedLines s ⌝ }
 {
-    s.vdisplay.0 / 2
+    if s.interlaced {
+        s.vdisplay.0
+    } else {
+        s.vdisplay.0 / 2
+    }
 }

@@ -1,6 +1,9 @@
 -- `lines::is_vdisplay` meets its contract: the last period by the half lines before it, which 32 bits bound.
 use Prim.Native.Nat.{ℕ}
-use mathlib.Core.Path.{_∙_}
+use mathlib.Core.Bool.{false}
+use mathlib.Core.List.{List}
+use mathlib.Core.Path.{_≡_, refl, _∙_}
+use Rattle.units.specs.Parameters.{screenOf, inField}
 use native.Mathlib.Omega.{arith}
 use mir.Syntax.{w32}
 use mir.Val.{Fits}
@@ -13,8 +16,13 @@ use Rattle.lines.proofs.is_vdisplay.Tie as tie
 fits : (start : tie.Start) (i : ℕ) → Fits w32 (getD (start .args .params) i 0)
 fits start i = search needs
 
+-- the screen that is read is its own first field
+first : (params : List ℕ) → screenOf params false ≡ inField false (screenOf params false)
+unfolding screenOf
+first params = refl
+
 counts : (c : tie.After-screen-of) → Narrow (c .screen-of .result)
-counts c = narrow (c .before .args .params) (fits (c .before)) _ (c .screen-of .ensures)
+counts c = narrow (c .before .args .params) false false (fits (c .before)) _ (c .screen-of .ensures ∙ first (c .before .args .params))
 
 pub is-vdisplay-spec : {M : Type 1} → statement M
 is-vdisplay-spec =

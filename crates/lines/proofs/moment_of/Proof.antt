@@ -1,12 +1,13 @@
 -- `lines::moment_of` meets its contract: each part by its own test, over counts that 32 bits bound.
-use Prim.Native.Nat.{ℕ}
-use mathlib.Core.Path.{refl}
+use Prim.Native.Nat.{ℕ, _*_, _≤_}
+use mathlib.Core.Path.{_≡_, refl, ap, _∙_}
 use native.Mathlib.Omega.{arith}
 use mir.Syntax.{w32}
 use mir.Val.{Fits}
 use borrow.Author.Needs.{needs}
 use lib.ListN.{getD}
-use Rattle.lines.proofs.Moments.{Narrow, narrow, line-from, moment-by}
+use Rattle.units.specs.Parameters.{screenOf, inField}
+use Rattle.lines.proofs.Moments.{Narrow, narrow, origin-most, moment-by}
 use Rattle.lines.proofs.moment_of.Statement.{statement}
 use Rattle.lines.proofs.moment_of.Tie as tie
 
@@ -14,13 +15,29 @@ use Rattle.lines.proofs.moment_of.Tie as tie
 fits : (start : tie.Start) (i : ℕ) → Fits w32 (getD (start .args .params) i 0)
 fits start i = search needs
 
-counts : (c : tie.After-screen-of) → Narrow (c .screen-of .result)
-counts c = narrow (c .before .args .params) (fits (c .before)) _ (c .screen-of .ensures)
+module _ (c : tie.After-in-field) where
+  abbrev start : tie.Start
+  start = c .before .before
+
+  screen : c .in-field .result ≡ inField (start .args .second) (screenOf (start .args .params) (start .args .interlaced))
+  screen = c .in-field .ensures ∙ ap (inField (start .args .second)) (c .before .screen-of .ensures)
+
+  counts : Narrow (c .in-field .result)
+  counts = narrow (start .args .params) (start .args .interlaced) (start .args .second) (fits start) _ screen
+
+-- what is added to a half line's number is at most five counts
+module _ (c : tie.After-origin-of) where
+  abbrev field : tie.After-in-field
+  field = c .before .before .before .before .before .before .before .before .before
+
+  most : c .origin-of .result ≤ 5 * 0xFFFFFFFF
+  most = origin-most (field .in-field .result) (counts field) _ (c .origin-of .ensures)
 
 pub moment-of-spec : {M : Type 1} → statement M
 moment-of-spec =
     tie.close
     (tie.spec
+    (λ c κs. tt)
     (λ c κs. tt)
     (λ c. omega (arith, counts (c .before .before)))
     (λ c. omega (arith, counts (c .before .before .before)))
@@ -29,30 +46,35 @@ moment-of-spec =
     (λ c. omega (arith, counts (c .before .before .before .before .before .before)))
     (λ c. omega (arith, counts (c .before .before .before .before .before .before .before)))
     (λ c. omega (arith, counts (c .before .before .before .before .before .before .before .before)))
-    (λ c. let screen = c .before .before .before .before .before .before .before .before in omega (arith, counts screen, screen .before .fits))
-    (λ c. let screen = c .before .before .before .before .before .before .before .before in omega (arith, counts screen, screen .before .fits))
+    (λ c κs. (refl, refl))
+    (λ c. omega (arith, most c, start (field c) .fits))
+    (λ c. omega (arith, counts (field c), start (field c) .fits))
     (λ c κs. tt)
-    (λ c. omega (arith, counts (c .before .before .before .before .before .before .before .before .before)))
-    (λ c. let screen = c .before .before .before .before .before .before .before .before .before in omega (arith, counts screen, screen .before .fits))
+    (λ c. omega (arith, most (c .before), counts (field (c .before))))
+    (λ c. omega (arith, most (c .before), start (field (c .before)) .fits))
     (λ c κs. tt)
     (λ c κs. tt)
-    (λ c. let screen = c .before .before .before .before .before .before .before .before .before .before .before in omega (arith, screen .before .fits))
-    (λ c. let screen = c .before .before .before .before .before .before .before .before .before .before .before in omega (arith, screen .before .fits))
+    (λ c. omega (arith, start (field (c .before .before .before)) .fits))
+    (λ c. omega (arith, start (field (c .before .before .before)) .fits))
     (λ c κs. tt)
-    (λ c κs. (counts (c .before .before .before .before .before .before .before .before .before .before .before .before) .halfsync, refl))
+    (λ c κs. (counts (field (c .before .before .before .before)) .halfsync, refl))
+    (λ c κs. tt)
     (λ c κs. tt)
     (λ c κs. tt)
     (λ c.
-    let low = c .before .before in
+    let level = c .before .before in
+    let low = level .before .before .before in
     let column = low .before .before in
     let line = column .before in
-    let screen = line .before .before .before .before .before .before .before .before .before .before in
-    moment-by (screen .screen-of .result) (screen .before .args .plain) (screen .before .args .half) (screen .before .args .at)
-    _ (line-from (screen .screen-of .result))
+    let origin = line .before .before in
+    let s = field origin in
+    moment-by (s .in-field .result) (start s .args .plain) (start s .args .half) (start s .args .at)
+    _ (origin .origin-of .ensures)
     _ (line .before .choose .ensures)
     _ (line .past .ensures)
     _ (column .past2 .ensures)
     _ (low .before .choose2 .ensures)
     _ (low .low-at .ensures)
+    _ (level .level .ensures)
     _ _ (c .before .choose3 .ensures) (c .choose4 .ensures)
-    _ (screen .screen-of .ensures)))
+    _ (screen s)))

@@ -1,12 +1,13 @@
--- A screen may start exactly when none of 10 to 17 holds, and what callers know of one that may. Assumes nothing.
+-- A screen may start exactly when none of 10 to 18 holds, and what callers know of one that may. Assumes nothing.
 use Prim.Native.Nat.{ℕ, _+_, _%_}
-use mathlib.Core.Path.{_≡_}
-use mathlib.Core.Bool.{Bool, true, false, not, _||_, true≢false}
+use mathlib.Core.Path.{_≡_, refl}
+use mathlib.Core.Bool.{Bool, true, false, not, _&&_, _||_, true≢false}
 use native.Mathlib.Omega.{arith}
 use lib.Dec.{ltb, eqb}
 use borrow.Author.Tests.{ltb-true, ltb-false, eqb-true, eqb-false, not-false, lt-ltb, le-ltb, eq-eqb, ne-eqb}
 use Rattle.screen.specs.Range.{most, outOfRange, refuses10}
-use Rattle.screen.specs.Limits.{refuses11, refuses12, refuses13, refuses14, refuses15, refuses16, refuses17, laterLimit, limitOf, Within, Bounded, Accepted}
+use Rattle.screen.specs.Limits.{refuses11, refuses12, refuses13, refuses14, refuses15, refuses16, refuses17, refuses18, laterLimit, limitOf, Within, Bounded, Accepted}
+use Rattle.units.specs.Parameters.{inField, halvesInField}
 use Rattle.units.specs.declared.Screen.{Screen}
 use Rattle.base.proofs.Bools.{neither-holds, link-passed}
 
@@ -60,7 +61,16 @@ unbroken s b = simp (on _ (b .halfsync), on _ (b .backporch), on _ (b .display),
 odd-false : (n : ℕ) → eqb (n % 2) 1 ≡ false → n % 2 ≡ 0
 odd-false n e = let one = eqb-false (n % 2) 1 e in omega arith
 
--- a screen may start exactly when none of 10 to 17 holds: neither-holds directions
+even-false : (n : ℕ) → eqb (n % 2) 0 ≡ false → n % 2 ≡ 1
+even-false n e = let none = eqb-false (n % 2) 0 e in omega arith
+
+by-16 : (s : Screen) → refuses16 s ≡ false → s .interlaced ≡ false → (eqb (s .vdisplay .0 % 2) 1 ≡ false) × (eqb (s .vblank .0 % 2) 1 ≡ false)
+by-16 s e n = neither-holds (eqb (s .vdisplay .0 % 2) 1) (eqb (s .vblank .0 % 2) 1) (simp n at e)
+
+by-18 : (s : Screen) → refuses18 s ≡ false → s .interlaced ≡ true → (eqb (s .vdisplay .0 % 2) 0 ≡ false) × (eqb (halvesInField s % 2) 0 ≡ false)
+by-18 s e n = neither-holds (eqb (s .vdisplay .0 % 2) 0) (eqb (halvesInField s % 2) 0) (simp n at e)
+
+-- a screen may start exactly when none of 10 to 18 holds: neither-holds directions
 pub accepted : (control : ℕ) (s : Screen) → limitOf control s ≡ 0 → Accepted control s
 unfolding limitOf laterLimit
 accepted control s e =
@@ -72,7 +82,7 @@ accepted control s e =
     let p15 = link-passed (refuses15 control s) 14 _ (p14 .1) in
     let p16 = link-passed (refuses16 s) 15 _ (p15 .1) in
     let p17 = link-passed (refuses17 s) 16 _ (p16 .1) in
-    let even = neither-holds (eqb (s .vdisplay .0 % 2) 1) _ (p16 .0) in
+    let p18 = link-passed (refuses18 s) 17 _ (p17 .1) in
     let delay = neither-holds (not (ltb (s .transferdelay .0 + 1) (s .backporch .0))) _ (p17 .0) in
     record {
       bounded = bounded s (p10 .0);
@@ -81,11 +91,29 @@ accepted control s e =
       half-holds = ltb-true _ _ (not-false _ (p13 .0));
       pulse-holds = ltb-true _ _ (not-false _ (p14 .0));
       shifts-whole = eqb-true _ _ (not-false _ (p15 .0));
-      display-even = odd-false (s .vdisplay .0) (even .0);
-      blank-even = odd-false (s .vblank .0) (even .1);
+      display-even = λ n. odd-false (s .vdisplay .0) (by-16 s (p16 .0) n .0);
+      blank-even = λ n. odd-false (s .vblank .0) (by-16 s (p16 .0) n .1);
       delay-below = ltb-true _ _ (not-false _ (delay .0));
       delay-short = ltb-false _ _ (delay .1);
+      display-odd = λ n. even-false (s .vdisplay .0) (by-18 s (p18 .0) n .0);
+      halves-odd = λ n. even-false (halvesInField s) (by-18 s (p18 .0) n .1);
     }
+
+-- each of the two by its own format
+module _ {control : ℕ} (s : Screen) (a : Accepted control s) where
+  not-16 : refuses16 s ≡ false
+  not-16 = go (s .interlaced) refl
+    where
+      go : (b : Bool) → s .interlaced ≡ b → (not b && (eqb (s .vdisplay .0 % 2) 1 || eqb (s .vblank .0 % 2) 1)) ≡ false
+      go true n = refl
+      go false n = neither _ _ (ne-eqb (s .vdisplay .0 % 2) 1 (λ e. omega (arith, a .display-even n))) (ne-eqb (s .vblank .0 % 2) 1 (λ e. omega (arith, a .blank-even n)))
+
+  not-18 : refuses18 s ≡ false
+  not-18 = go (s .interlaced) refl
+    where
+      go : (b : Bool) → s .interlaced ≡ b → (b && (eqb (s .vdisplay .0 % 2) 0 || eqb (halvesInField s % 2) 0)) ≡ false
+      go false n = refl
+      go true n = neither _ _ (ne-eqb (s .vdisplay .0 % 2) 0 (λ e. omega (arith, a .display-odd n))) (ne-eqb (halvesInField s % 2) 0 (λ e. omega (arith, a .halves-odd n)))
 
 pub unrefused : (control : ℕ) (s : Screen) → Accepted control s → limitOf control s ≡ 0
 unfolding limitOf laterLimit
@@ -97,10 +125,10 @@ unrefused control s a =
       lt-ltb _ _ (a .half-holds),
       lt-ltb _ _ (a .pulse-holds),
       eq-eqb _ _ (a .shifts-whole),
-      ne-eqb (s .vdisplay .0 % 2) 1 (λ e. omega arith),
-      ne-eqb (s .vblank .0 % 2) 1 (λ e. omega arith),
+      not-16 s a,
       lt-ltb _ _ (a .delay-below),
       le-ltb _ _ (a .delay-short),
+      not-18 s a,
     )
 
 -- the largest parameter fits the 24 bits of a register: sums are bounded by that alone
@@ -123,4 +151,40 @@ narrow s b =
       linetime = wider (b .linetime);
       meminit = wider (b .meminit);
       transferdelay = wider (b .transferdelay);
+    }
+
+-- a screen that may start may start in either field: no limit asks for it
+pub bounded-in : {largest : ℕ} (s : Screen) (f : Bool) → Bounded largest s → Bounded largest (inField f s)
+bounded-in s f b =
+    record {
+      halfsync = b .halfsync;
+      backporch = b .backporch;
+      display = b .display;
+      shortdisplay = b .shortdisplay;
+      broadpulse = b .broadpulse;
+      vsync = b .vsync;
+      vpreequalise = b .vpreequalise;
+      vpostequalise = b .vpostequalise;
+      vblank = b .vblank;
+      vdisplay = b .vdisplay;
+      linetime = b .linetime;
+      meminit = b .meminit;
+      transferdelay = b .transferdelay;
+    }
+
+pub accepted-in : {control : ℕ} (s : Screen) (f : Bool) → Accepted control s → Accepted control (inField f s)
+accepted-in s f a =
+    record {
+      bounded = bounded-in s f (a .bounded);
+      line-even = a .line-even;
+      line-holds = a .line-holds;
+      half-holds = a .half-holds;
+      pulse-holds = a .pulse-holds;
+      shifts-whole = a .shifts-whole;
+      display-even = a .display-even;
+      blank-even = a .blank-even;
+      delay-below = a .delay-below;
+      delay-short = a .delay-short;
+      display-odd = a .display-odd;
+      halves-odd = a .halves-odd;
     }

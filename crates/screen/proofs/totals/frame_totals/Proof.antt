@@ -1,21 +1,28 @@
 -- `screen::totals::frame_totals` meets its contract: where no limit is broken, 24 bits bound every parameter.
-use mathlib.Core.Path.{sym, _∙_}
+use mathlib.Core.Path.{_≡_, sym, ap, _∙_}
+use Rattle.control.specs.Control.{interlaced}
+use Rattle.units.specs.Parameters.{screenOf}
+use Rattle.screen.specs.Limits.{limitOf}
 use Rattle.screen.proofs.limits.Laws.{accepted, narrow}
 use Rattle.screen.proofs.totals.Laws.{totals-counted, totals-refused}
 use Rattle.screen.proofs.totals.frame_totals.Statement.{statement}
 use Rattle.screen.proofs.totals.frame_totals.Tie as tie
 
-limit-requires : tie.Need-limit-requires
-limit-requires c κs = tt
+-- the screen of the control word's format
+module _ (c : tie.After-limit) where
+  abbrev start : tie.Start
+  start = c .before .before .before
 
-count-requires : tie.Need-count-requires
-count-requires c κs = narrow _ (accepted _ _ (sym (c .before .limit .ensures) ∙ c .if1 .taken) .bounded)
-
-returns : tie.Need-returns
-returns c = c .count .ensures ∙ totals-counted _ _ (sym (c .before .before .limit .ensures) ∙ c .before .if1 .taken)
-
-returns-2 : tie.Need-returns-2
-returns-2 c = totals-refused _ _ _ (c .before .limit .ensures) (c .if1 .left)
+  limit-is : c .limit .result ≡ limitOf (start .args .control) (screenOf (start .args .params) (interlaced (start .args .control)))
+  limit-is = c .limit .ensures ∙ ap (limitOf (start .args .control)) (c .before .screen-of .ensures ∙ ap (screenOf (start .args .params)) (c .before .before .is-interlaced .ensures))
 
 pub frame-totals-spec : {M : Type 1} → statement M
-frame-totals-spec = tie.close (tie.spec limit-requires count-requires returns returns-2)
+frame-totals-spec =
+    tie.close
+    (tie.spec
+    (λ c κs. tt)
+    (λ c κs. tt)
+    (λ c κs. tt)
+    (λ c κs. rw (c .before .before .before .is-interlaced .ensures) (narrow _ (accepted _ _ (sym (limit-is (c .before)) ∙ c .if1 .taken) .bounded)))
+    (λ c. c .count .ensures ∙ rw (c .before .before .before .before .is-interlaced .ensures) (totals-counted _ _ (sym (limit-is (c .before .before)) ∙ c .before .if1 .taken)))
+    (λ c. totals-refused _ _ _ (limit-is (c .before)) (c .if1 .left)))
