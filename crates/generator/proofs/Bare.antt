@@ -1,4 +1,5 @@
 -- What asks the registers' numbers alone says of a file what it says of one with its numbers and nothing else. Assumes nothing.
+use mathlib.Core.Bool.{Bool}
 use mathlib.Core.List.{List}
 use mathlib.Core.Path.{_≡_, refl}
 use Prim.Native.Nat.{ℕ}
@@ -7,20 +8,16 @@ use Rattle.registers.specs.File.{numbersOf, bare}
 use Rattle.registers.specs.declared.Registers.{Registers}
 use Rattle.signals.specs.declared.Dot.{Dot}
 use Rattle.pixel.specs.declared.Sums.{Sums}
-use Rattle.generator.specs.Rows.{visibleAt, shows, topUsed, taken, transferAt, heldAddress, rowDivisor, place, asks, leads, requestAt}
+use Rattle.generator.specs.Rows.{visibleAt, shows, topUsed, taken, transferAt, heldAddress, place, asks, leads, requestAt}
 use Rattle.generator.specs.Tick.{refuses20, seenAfter, stepWith, signalsWith}
 use Rattle.generator.specs.Stand.{Runs, Stands}
 use Rattle.generator.specs.declared.Generator.{Generator}
 use Rattle.generator.specs.declared.stand.Stand.{Stand}
 
 module _ (r : Registers) where
-  pub top-bare : topUsed (bare (numbersOf r)) ≡ topUsed r
+  pub top-bare : (second : Bool) → topUsed (bare (numbersOf r)) second ≡ topUsed r second
   unfolding topUsed
-  top-bare = refl
-
-  pub divisor-bare : rowDivisor (bare (numbersOf r)) ≡ rowDivisor r
-  unfolding rowDivisor
-  divisor-bare = refl
+  top-bare second = refl
 
   module _ (g : Generator) where
     pub runs-bare : Runs r g → Runs (bare (numbersOf r)) g
@@ -30,7 +27,7 @@ module _ (r : Registers) where
     runs-whole k = record { runs = k .runs; accepted = k .accepted; placed = k .placed }
 
     pub stands-whole : (t : Stand) → Stands (bare (numbersOf r)) g t → Stands r g t
-    unfolding visibleAt shows topUsed taken transferAt heldAddress rowDivisor place requestAt
+    unfolding visibleAt shows topUsed taken transferAt heldAddress place requestAt
     stands-whole t st =
         record {
           screen-is = st .screen-is;
@@ -45,7 +42,7 @@ module _ (r : Registers) where
         }
 
     pub refuses-bare : (m : List ℕ) → refuses20 (bare (numbersOf r)) m g ≡ refuses20 r m g
-    unfolding visibleAt shows topUsed taken transferAt heldAddress rowDivisor place refuses20
+    unfolding visibleAt shows topUsed taken transferAt heldAddress place refuses20
     refuses-bare m = refl
 
     pub step-bare : (sums : Sums) → stepWith (bare (numbersOf r)) g sums ≡ stepWith r g sums

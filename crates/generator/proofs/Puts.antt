@@ -22,17 +22,18 @@ use Rattle.pixel.specs.declared.Spot.{Spot}
 use Rattle.pixel.specs.Sums.{clearedAt, summedWhere}
 use Rattle.pixel.specs.declared.Sums.{Sums}
 use Rattle.memory.proofs.Laws.{ends-beyond-later}
-use Rattle.generator.specs.Rows.{screen, visibleAt, shows, heldAddress, place, asks}
-use Rattle.generator.specs.Tick.{dotOf, dots, refuses20, cleared, sumsAfter, seenAfter, stepWith, signalsWith, signals, tickRefusal, tickOf}
+use Rattle.generator.specs.Rows.{screen, fieldAt, visibleAt, shows, heldAddress, place, asks}
+use Rattle.generator.specs.Tick.{inLines, dotOf, dots, refuses20, cleared, sumsAfter, seenAfter, stepWith, signalsWith, signals, tickRefusal, tickOf}
 use Rattle.generator.specs.Stand.{Runs, Stands}
 use Rattle.generator.specs.declared.Generator.{Generator}
 use Rattle.generator.specs.declared.stand.Stand.{Stand}
 use Rattle.units.specs.Parameters.{halfTicks}
-use Rattle.screen.proofs.limits.Laws.{narrow}
-use Rattle.lines.specs.Lines.{visible, opens, tickNumber, visibleBefore, momentOf}
+use Rattle.screen.proofs.limits.Laws.{narrow, accepted-in}
+use Rattle.lines.proofs.Halves.{lines-above-most}
+use Rattle.lines.specs.Lines.{visible, linesAbove, opens, tickNumber, visibleBefore, momentOf}
 use Rattle.lines.specs.declared.Moment.{Moment}
 use Rattle.generator.proofs.stand.Bounds.{lines-in}
-use Rattle.generator.proofs.VisibleBefore.{visible-line, column-by, line-by}
+use Rattle.generator.proofs.VisibleBefore.{column-by, line-by}
 use Rattle.base.proofs.Bools.{both-hold, or-second}
 use Rattle.base.proofs.Run.{run-same}
 
@@ -48,7 +49,7 @@ unfolding place
 place-run r a v k = omega arith
 
 -- what a tick's moment says of it
-moment-opens : (r : Registers) (g : Generator) (t : Stand) → Stands r g t → t .moment .opens ≡ opens (screen r) (g .half .0) (g .at .0)
+moment-opens : (r : Registers) (g : Generator) (t : Stand) → Stands r g t → t .moment .opens ≡ opens (fieldAt r g) (g .half .0) (g .at .0)
 unfolding momentOf
 moment-opens r g t st = ap (λ (x : Moment). x .opens) (st .moment-is)
 
@@ -84,20 +85,20 @@ module _ (r : Registers) (m : List ℕ) (g : Generator) (t : Stand) (st : Stands
   held-by s e = refuse-lit s ∙ e
 
   -- the four pixels of a tick whose first one is spotted: under the cursor, and away from it
-  pub dots-lit : t .shows ≡ true → (four : List Dot) → four ≡ run (dotOf r m (heldAddress r g) (g .seen .0)) 0 4 → four ≡ dots r m g
+  pub dots-lit : t .shows ≡ true → (four : List Dot) → four ≡ run (dotOf r (g .second) m (heldAddress r g) (g .seen .0)) 0 4 → four ≡ dots r m g
   unfolding dots
   dots-lit s four e = e ∙ simp (← (st .shows-is), s)
 
-  module _ (on : t .shows ≡ true) (at : Spot) (spot : at ≡ record { place = t .place; x = 4 * (g .seen .0 % t .screen .display .0); y = g .seen .0 / t .screen .display .0 }) where
-    dot-by : (k : ℕ) → dotAt r (r .position) m (at .place + k) (at .x + k) (at .y) ≡ dotOf r m (heldAddress r g) (g .seen .0) k
+  module _ (on : t .shows ≡ true) (at : Spot) (spot : at ≡ record { place = t .place; x = 4 * (inLines r (g .second) (g .seen .0) % t .screen .display .0); y = inLines r (g .second) (g .seen .0) / t .screen .display .0 }) where
+    dot-by : (k : ℕ) → dotAt r (r .position) m (at .place + k) (at .x + k) (at .y) ≡ dotOf r (g .second) m (heldAddress r g) (g .seen .0) k
     unfolding dotOf
     dot-by k = rw (spot, place-at on k, st .screen-is)
 
-    pub covered-by : run (λ k. dotAt r (r .position) m (at .place + k) (at .x + k) (at .y)) 0 4 ≡ run (dotOf r m (heldAddress r g) (g .seen .0)) 0 4
+    pub covered-by : run (λ k. dotAt r (r .position) m (at .place + k) (at .x + k) (at .y)) 0 4 ≡ run (dotOf r (g .second) m (heldAddress r g) (g .seen .0)) 0 4
     covered-by = run-same _ _ 0 0 4 (λ k l. dot-by (0 + k))
 
     pub uncovered-by : (cursorOn (r .control) && near (r .position) (at .x) (at .y)) ≡ false →
-        run (λ k. dotBelow (numbersOf r) (r .palette) m (t .place + k)) 0 4 ≡ run (dotOf r m (heldAddress r g) (g .seen .0)) 0 4
+        run (λ k. dotBelow (numbersOf r) (r .palette) m (t .place + k)) 0 4 ≡ run (dotOf r (g .second) m (heldAddress r g) (g .seen .0)) 0 4
     uncovered-by n = run-same _ _ 0 0 4 (λ k l.
         let e : t .place ≡ at .place = rw spot in
         rw (e, zero-add k) (dot-uncovered r (r .position) m (at .place + k) (at .x + k) (at .y) (near-none (r .control) (r .position) (at .x) (at .y) n (r .store) k l) ∙ dot-by k))
@@ -122,7 +123,7 @@ asked-by r g t st = go (t .moment .visible) refl
 -- the generator after the tick, from what its parts answer
 pub next-by : (r : Registers) (g : Generator) (t : Stand) → Stands r g t → (sums : Sums) (asked : Bool) (more seen : ℕ) → more ≡ cond (t .moment .visible) (g .seen .0 + 1) (g .seen .0) →
     seen ≡ cond (t .moment .closes) 0 more → asked ≡ cond (t .moment .visible) (t .asking) (g .asked) →
-    _≡_ {A = Generator} (record { half = record { 0 = t .moment .half }; at = record { 0 = t .moment .at }; seen = record { 0 = seen }; held = t .held; asked = asked; sums = sums }) (stepWith r g sums)
+    _≡_ {A = Generator} (record { second = t .moment .second; half = record { 0 = t .moment .half }; at = record { 0 = t .moment .at }; seen = record { 0 = seen }; held = t .held; asked = asked; sums = sums }) (stepWith r g sums)
 unfolding stepWith seenAfter visibleAt momentOf
 next-by r g t st sums asked more seen em es ek = rw (es, ek, em, asked-by r g t st, st .moment-is, st .held-is)
 
@@ -133,35 +134,39 @@ unfolding signalsWith momentOf
 signals-by r g t st four on address eo ea = rw (ea, eo, st .moment-is, st .shows-is, st .request-is, st .transfer-is, st .held-is)
 
 -- the columns and lines of a placed generator's next tick
-module _ (r : Registers) (g : Generator) (k : Runs r g) (s : Screen) (e : s ≡ screen r) where
+module _ (r : Registers) (g : Generator) (k : Runs r g) (s : Screen) (e : s ≡ fieldAt r g) where
   pub display-some : 0 < s .display .0
   display-some = rw e (k .accepted .bounded .display .low)
 
   pub display-most : s .display .0 ≤ 0xFFFFFF
   display-most = rw e (omega (arith, k .accepted .bounded .display .high))
 
-  pub line-in : g .seen .0 / s .display .0 < 2 ^ 32
-  line-in =
-      rw e (rw (k .placed .seen-is)
-      (omega (arith, visible-line (r .control) (screen r) (k .accepted) (g .half .0) (g .at .0) (k .placed .at-in), k .placed .half-in, k .accepted .bounded)))
-
 -- the spot that a visible tick's moment names, in terms of the ticks counted
-module _ (r : Registers) (g : Generator) (k : Runs r g) (t : Stand) (st : Stands r g t) (on : t .shows ≡ true) where
-  pub spot-column : t .moment .column ≡ g .seen .0 % t .screen .display .0
-  unfolding momentOf visibleAt
-  spot-column =
-      ap (λ (x : Moment). x .column) (st .moment-is)
-      ∙ rw (st .screen-is, k .placed .seen-is) (column-by (r .control) (screen r) (k .accepted) (g .half .0) (g .at .0) (k .placed .at-in) (shown-visible r g t st on))
+module _ (r : Registers) (g : Generator) (k : Runs r g) (t : Stand) (st : Stands r g t) where
+  moment-half : t .moment .line ≡ linesAbove (fieldAt r g) (g .half .0)
+  unfolding momentOf
+  moment-half = ap (λ (x : Moment). x .line) (st .moment-is)
 
-  pub spot-line : t .moment .line ≡ g .seen .0 / t .screen .display .0
-  unfolding momentOf visibleAt
-  spot-line =
-      ap (λ (x : Moment). x .line) (st .moment-is)
-      ∙ rw (st .screen-is, k .placed .seen-is) (line-by (r .control) (screen r) (k .accepted) (g .half .0) (g .at .0) (k .placed .at-in) (shown-visible r g t st on))
+  -- a line is one of the field's
+  pub line-in : t .moment .line < 2 ^ 32
+  line-in = omega (arith, moment-half, lines-above-most (fieldAt r g) (g .half .0), k .placed .half-in, k .accepted .bounded)
 
-  pub spot-by : (at : Spot) → at ≡ record { place = t .place; x = 4 * t .moment .column; y = t .moment .line } →
-      at ≡ record { place = t .place; x = 4 * (g .seen .0 % t .screen .display .0); y = g .seen .0 / t .screen .display .0 }
-  spot-by at e = e ∙ rw (spot-column, spot-line)
+  module _ (on : t .shows ≡ true) where
+    pub spot-column : t .moment .column ≡ inLines r (g .second) (g .seen .0) % t .screen .display .0
+    unfolding momentOf visibleAt
+    spot-column =
+        ap (λ (x : Moment). x .column) (st .moment-is)
+        ∙ rw (st .screen-is, k .placed .seen-is) (column-by (r .control) (fieldAt r g) (accepted-in (screen r) (g .second) (k .accepted)) (g .half .0) (g .at .0) (k .placed .at-in) (shown-visible r g t st on))
+
+    pub spot-line : t .moment .line ≡ inLines r (g .second) (g .seen .0) / t .screen .display .0
+    unfolding momentOf visibleAt
+    spot-line =
+        ap (λ (x : Moment). x .line) (st .moment-is)
+        ∙ rw (st .screen-is, k .placed .seen-is) (line-by (r .control) (fieldAt r g) (accepted-in (screen r) (g .second) (k .accepted)) (g .half .0) (g .at .0) (k .placed .at-in) (shown-visible r g t st on))
+
+    pub spot-by : (at : Spot) → at ≡ record { place = t .place; x = 4 * t .moment .column; y = t .moment .line } →
+        at ≡ record { place = t .place; x = 4 * (inLines r (g .second) (g .seen .0) % t .screen .display .0); y = inLines r (g .second) (g .seen .0) / t .screen .display .0 }
+    spot-by at e = e ∙ rw (spot-column, spot-line)
 
 one-more : (b : Bool) (c n : ℕ) → c ≤ n → cond b (c + 1) c ≤ suc n
 one-more true c n p = omega arith
@@ -176,8 +181,8 @@ count-most test (suc n) = one-more (test n) (count test n) n (count-most test n)
 pub seen-in : (r : Registers) (g : Generator) → Runs r g → g .seen .0 < 2 ^ 60
 unfolding visibleBefore
 seen-in r g k =
-    let s = screen r in
-    let b = narrow s (k .accepted .bounded) in
+    let s = fieldAt r g in
+    let b = narrow (screen r) (k .accepted .bounded) in
     rw (k .placed .seen-is)
     (omega (arith, count-most (λ n. visible s (n / halfTicks s) (n % halfTicks s)) (tickNumber s (g .half .0) (g .at .0)), lines-in (g .half .0) (halfTicks s) (omega (arith, k .placed .half-in, b)) (omega (arith, b .linetime .high)), k .placed .at-in, b .linetime .high))
 

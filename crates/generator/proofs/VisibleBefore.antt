@@ -1,22 +1,21 @@
--- How many visible ticks lie before a position of the frame: the count, in closed form, whichever half of a line VDisplay begins with; and the
--- two laws of this format, that VDisplay begins with a first half and has whole lines; and the column and the line that the count gives.
--- Assumes nothing.
+-- How many visible ticks lie before a position of the field: the count, in closed form, whichever half of a line VDisplay begins with; the
+-- column and the line that the count gives; and, by the format, how many a whole frame has. Assumes nothing.
 use Prim.Native.Nat.{ℕ, zero, suc, _+_, _-_, _*_, _/_, _%_, _≤_, _<_, min}
 use mathlib.Core.Bool.{Bool, true, false, cond, _&&_, true≢false}
-use mathlib.Core.Path.{_≡_, refl, sym, _∙_}
+use mathlib.Core.Path.{_≡_, refl, sym, ap, _∙_}
 use mathlib.Core.Logic.{_⊎_, ⊎-elim}
-use native.Mathlib.Nat.{mod-lt, mod-eq-of-lt, div-eq-of-lt-le, div-lt-iff-lt-mul, div-add-mod', mul-add-mod-self-right, mul-le-mul-right, mul-pos, mul-comm, zero-mul, zero-div, zero-mod, add-zero, add-suc, le-trans}
+use native.Mathlib.Nat.{mod-lt, mod-eq-of-lt, div-eq-of-lt-le, div-lt-iff-lt-mul, div-add-mod', mul-add-mod-self-right, mul-le-mul-right, mul-pos, mul-comm, zero-mul, zero-div, zero-mod, add-zero, add-suc, add-mul, le-trans}
 use native.Mathlib.Numerals.{add-one}
 use native.Mathlib.Omega.{arith}
-use borrow.Author.Tests.{ltb-true, leb-true, lt-ltb, le-ltb, le-leb, lt-leb, ne-eqb}
+use borrow.Author.Tests.{ltb-true, leb-true, lt-ltb, le-ltb, le-leb, lt-leb, eq-eqb, ne-eqb}
 use lib.Dec.{ltb, leb}
 use Rattle.base.specs.Count.{count}
-use Rattle.units.specs.Parameters.{halfTicks, displayFrom, halvesToVBlank, halvesToVDisplay, halvesInFrame}
+use Rattle.units.specs.Parameters.{inField, fieldTicks, halfTicks, displayFrom, halvesToVBlank, halvesToVDisplay, halvesInField}
 use Rattle.screen.specs.Limits.{Accepted}
-use Rattle.screen.specs.Totals.{frameTicks, frameVisible}
+use Rattle.screen.specs.Totals.{frameVisible}
 use Rattle.units.specs.declared.Screen.{Screen}
-use Rattle.lines.specs.Lines.{period, isVDisplay, lineOf, secondHalf, inLine, inDisplay, visible, lead, columnOf, linesAbove, tickNumber, visibleBefore}
-use Rattle.lines.proofs.Halves.{second-since-vblank, in-line-even, line-of-even, first-next, first-line, first-in, second-next, second-line, second-in, in-line-next, line-least, line-most, in-line-least}
+use Rattle.lines.specs.Lines.{period, isVDisplay, lineOf, secondHalf, inLine, inDisplay, visible, lead, columnOf, linesAbove, tickNumber, visibleBefore, fieldVisible}
+use Rattle.lines.proofs.Halves.{second-since-vblank, second-through, line-through, in-line-even, line-of-even, first-next, first-line, first-in, second-next, second-line, second-in, in-line-next, line-least, line-most, in-line-least}
 use Rattle.lines.specs.declared.Period.the-variants.{PreEqualise, VSync, PostEqualise, VBlank}
 use Rattle.base.proofs.Bools.{below, both-hold}
 
@@ -186,39 +185,19 @@ module _ (control : ℕ) (s : Screen) (ok : Accepted control s) where
     unfolding visibleBefore count
     visible-next = rw (add-one (tickNumber s h u)) (rw (number-half h u (halfTicks s) p, number-at h u (halfTicks s) p))
 
-    -- a visible tick's line is one of the frame's half lines
-    pub visible-line : visibleBefore s (tickNumber s h u) / s .display .0 < h + 2
-    visible-line =
-        div-lt-iff-lt-mul {k = s .display .0} (ok .bounded .display .low) .1
-        (⊎-elim
-        (λ q. rw (visible-none q) (mul-pos {m = h + 2} (omega arith) (ok .bounded .display .low)))
-        (λ q. rw (visible-closed q) (omega (arith, mul-le-mul-right (s .display .0) (half-most q), ok .bounded .display .low)))
-        (below h (halvesToVDisplay s)))
-      where
-        half-most : halvesToVDisplay s ≤ h → lineOf s h - lineOf s (halvesToVDisplay s) ≤ h
-        half-most q = omega (arith, line-most s (halvesToVDisplay s) h q)
-
   -- before VDisplay's first tick there is none
   pub visible-opens : visibleBefore s (tickNumber s (halvesToVDisplay s) 0) ≡ 0
   visible-opens = closed (halvesToVDisplay s) 0 some-ticks ∙ to-first s
 
-  -- THE LEAD IS 0, for VBlank is even: VDisplay begins with the first half of a line
-  pub lead-none : lead s ≡ 0
-  unfolding lead
-  lead-none =
-      let first = second-since-vblank s (s .vblank .0) ∙ ne-eqb (s .vblank .0 % 2) 1 (λ e. omega (arith, ok .blank-even)) in
-      rw (first-in s (halvesToVDisplay s) first 0) (omega arith)
+  -- THE FIELD'S VISIBLE TICKS, in closed form
+  pub field-visible : visibleBefore s (fieldTicks s) ≡ fieldVisible s
+  unfolding fieldVisible linesAbove columnOf
+  field-visible =
+      let e : fieldTicks s ≡ tickNumber s (halvesInField s) 0 = omega (arith, mul-comm (halfTicks s) (halvesInField s)) in
+      rw e (visible-closed (halvesInField s) 0 some-ticks (omega arith))
 
-  -- A FRAME HAS Display x VDisplay / 2 VISIBLE TICKS, for VDisplay is even: it ends as it begins, half as many lines on
-  pub frame-visible : visibleBefore s (frameTicks s) ≡ frameVisible s
-  unfolding lead
-  frame-visible =
-      let e : frameTicks s ≡ tickNumber s (halvesInFrame s) 0 = omega (arith, mul-comm (halfTicks s) (halvesInFrame s)) in
-      let n : lineOf s (halvesInFrame s) - lineOf s (halvesToVDisplay s) ≡ s .vdisplay .0 / 2 = omega (arith, line-of-even s (halvesToVDisplay s) (s .vdisplay .0) (ok .display-even)) in
-      rw e (visible-closed (halvesInFrame s) 0 some-ticks (omega arith) ∙ rw (n, in-line-even s (halvesToVDisplay s) (s .vdisplay .0) 0 (ok .display-even)) (omega (arith, mul-comm (s .vdisplay .0 / 2) (s .display .0))))
-
-  -- THE COLUMN AND THE LINE OF A VISIBLE TICK follow from where it stands: they are what the count leaves and gives, divided by Display. This
-  -- rests on `lead-none`: with a lead, the count is short by it in every line
+  -- THE COLUMN AND THE LINE OF A VISIBLE TICK follow from where it stands: with the lead before it they are what the count leaves and gives,
+  -- divided by Display
   module _ (h u : ℕ) (p : u < halfTicks s) (v : visible s h u ≡ true) where
     from-vdisplay : halvesToVDisplay s ≤ h
     from-vdisplay = ⊎-elim (λ q. absurd (true≢false (sym v ∙ dark s h u q))) (λ q. q) (below h (halvesToVDisplay s))
@@ -232,12 +211,72 @@ module _ (control : ℕ) (s : Screen) (ok : Accepted control s) where
     unfolding columnOf
     column-in = omega (arith, in-display)
 
-    count-spot : visibleBefore s (tickNumber s h u) ≡ linesAbove s h * s .display .0 + columnOf s h u
+    count-spot : visibleBefore s (tickNumber s h u) + lead s ≡ linesAbove s h * s .display .0 + columnOf s h u
     unfolding columnOf linesAbove
-    count-spot = visible-closed h u p from-vdisplay ∙ omega (arith, in-display, lead-none)
+    count-spot = omega (arith, visible-closed h u p from-vdisplay, lead-passed s h u from-vdisplay, in-display)
 
-    pub column-by : columnOf s h u ≡ visibleBefore s (tickNumber s h u) % s .display .0
+    pub column-by : columnOf s h u ≡ (visibleBefore s (tickNumber s h u) + lead s) % s .display .0
     column-by = sym (rw count-spot (number-at (linesAbove s h) (columnOf s h u) (s .display .0) column-in))
 
-    pub line-by : linesAbove s h ≡ visibleBefore s (tickNumber s h u) / s .display .0
+    pub line-by : linesAbove s h ≡ (visibleBefore s (tickNumber s h u) + lead s) / s .display .0
     line-by = sym (rw count-spot (number-half (linesAbove s h) (columnOf s h u) (s .display .0) column-in))
+
+  -- by the format: not interlaced, VBlank is even and VDisplay begins with the first half of a line
+  pub lead-none : s .interlaced ≡ false → lead s ≡ 0
+  unfolding lead
+  lead-none n =
+      let first = second-since-vblank s n (s .vblank .0) ∙ ne-eqb (s .vblank .0 % 2) 1 (λ e. omega (arith, ok .blank-even n)) in
+      rw (first-in s (halvesToVDisplay s) first 0) (omega arith)
+
+  -- and VDisplay is even: it ends as it begins, half as many lines on
+  pub plain-visible : s .interlaced ≡ false → fieldVisible s ≡ frameVisible s
+  unfolding fieldVisible linesAbove columnOf lead
+  plain-visible n =
+      let k : lineOf s (halvesInField s) - lineOf s (halvesToVDisplay s) ≡ s .vdisplay .0 / 2 = omega (arith, line-of-even s (halvesToVDisplay s) (s .vdisplay .0) (ok .display-even n)) in
+      simp n (rw (k, in-line-even s (halvesToVDisplay s) (s .vdisplay .0) 0 (ok .display-even n)) (omega (arith, mul-comm (s .vdisplay .0 / 2) (s .display .0))))
+
+-- interlaced, VDisplay is odd, and so is the field: the first field begins with a first half and ends in the middle of a line, the second begins
+-- with a second half and ends with a line, and what the one has of its last line the other lacks of its first
+module _ (control : ℕ) (s : Screen) (ok : Accepted control s) (n : s .interlaced ≡ true) where
+  abbrev middle : ℕ
+  middle = min (s .display .0) (halfTicks s - displayFrom s)
+
+  before-even : halvesToVDisplay s % 2 ≡ 0
+  before-even = omega (arith, ok .display-odd n, ok .halves-odd n)
+
+  abbrev lines : ℕ
+  lines = s .vdisplay .0 / 2
+
+  -- so the first field's VDisplay begins with a first half, and the second's with a second half
+  pub begins-by-field : (second : Bool) → secondHalf (inField second s) (halvesToVDisplay s) ≡ second
+  begins-by-field false = second-through (inField false s) n (halvesToVDisplay s) ∙ ne-eqb ((halvesToVDisplay s + 0) % 2) 1 (λ e. omega (arith, before-even))
+  begins-by-field true = second-through (inField true s) n (halvesToVDisplay s) ∙ eq-eqb ((halvesToVDisplay s + halvesInField s) % 2) 1 (omega (arith, before-even, ok .halves-odd n))
+
+  pub lead-first : lead (inField false s) ≡ 0
+  unfolding lead
+  lead-first = rw (first-in (inField false s) (halvesToVDisplay s) (begins-by-field false) 0) (omega arith)
+
+  pub lead-second : lead (inField true s) ≡ middle
+  unfolding lead
+  lead-second = rw (second-in (inField true s) (halvesToVDisplay s) (begins-by-field true) 0, add-zero)
+
+  pub first-visible : fieldVisible (inField false s) ≡ lines * s .display .0 + middle
+  unfolding fieldVisible linesAbove columnOf
+  first-visible =
+      let second = second-through (inField false s) n (halvesInField s) ∙ eq-eqb ((halvesInField s + 0) % 2) 1 (omega (arith, ok .halves-odd n)) in
+      let k : lineOf (inField false s) (halvesInField s) - lineOf (inField false s) (halvesToVDisplay s) ≡ s .vdisplay .0 / 2 = omega (arith, line-through (inField false s) n (halvesInField s), line-through (inField false s) n (halvesToVDisplay s), before-even, ok .display-odd n) in
+      rw (k, second-in (inField false s) (halvesInField s) second 0, add-zero, lead-first) (omega arith)
+
+  pub second-visible : fieldVisible (inField true s) ≡ (lines + 1) * s .display .0 - middle
+  unfolding fieldVisible linesAbove columnOf
+  second-visible =
+      let first = second-through (inField true s) n (halvesInField s) ∙ ne-eqb ((halvesInField s + halvesInField s) % 2) 1 (λ e. omega arith) in
+      let k : lineOf (inField true s) (halvesInField s) - lineOf (inField true s) (halvesToVDisplay s) ≡ s .vdisplay .0 / 2 + 1 = omega (arith, line-through (inField true s) n (halvesInField s), line-through (inField true s) n (halvesToVDisplay s), before-even, ok .display-odd n, ok .halves-odd n) in
+      rw (k, first-in (inField true s) (halvesInField s) first 0, lead-second) (omega arith)
+
+  -- both fields together show Display for each of VDisplay lines
+  pub fields-visible : fieldVisible (inField false s) + fieldVisible (inField true s) ≡ frameVisible s
+  fields-visible =
+      let odd : s .vdisplay .0 ≡ s .vdisplay .0 / 2 + (s .vdisplay .0 / 2 + 1) = omega (arith, ok .display-odd n) in
+      let all : s .display .0 * s .vdisplay .0 ≡ lines * s .display .0 + (lines + 1) * s .display .0 = mul-comm (s .display .0) (s .vdisplay .0) ∙ ap (λ (k : ℕ). k * s .display .0) odd ∙ add-mul lines (lines + 1) (s .display .0) in
+      rw (first-visible, second-visible) (simp n (omega (arith, all)))

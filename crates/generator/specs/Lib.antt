@@ -2,6 +2,7 @@
 pub mod Rows
 pub mod Counters
 pub mod Dark
+pub mod First
 pub mod Sound
 pub mod Tick
 pub mod Stand

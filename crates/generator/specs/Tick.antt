@@ -1,4 +1,4 @@
--- One tick (01, "Lines and frames", "Rows and pixels"): whether it is refused, what it puts out, the generator after it.
+-- One tick (01, "Lines and frames", "Rows and pixels"; 02, Q-4): whether it is refused, what it puts out, the generator after it.
 -- r: the registers, m: the picture memory, g: the generator before the tick. Assumes nothing.
 use Prim.Native.Nat.{ℕ, zero, suc, _+_, _*_, _/_, _%_}
 use mathlib.Core.Bool.{Bool, not, cond, _&&_}
@@ -14,8 +14,9 @@ use Rattle.memory.specs.Memory.{endsBeyond}
 use Rattle.pixel.specs.Dot.{dotAt}
 use Rattle.pixel.specs.Sums.{clearedAt, summedWhere}
 use Rattle.pixel.specs.declared.Sums.{Sums}
-use Rattle.lines.specs.Lines.{period, isVSync, isVDisplay, syncLow, opens, closes, nextHalf, nextAt}
-use Rattle.generator.specs.Rows.{screen, visibleAt, shows, transferAt, heldAddress, place, asks, requestAt}
+use Rattle.lines.specs.Lines.{period, isVSync, isVDisplay, syncLow, lead, opens, closes, nextSecond, nextHalf, nextAt}
+use Rattle.units.specs.Parameters.{inField}
+use Rattle.generator.specs.Rows.{screen, fieldAt, visibleAt, shows, transferAt, heldAddress, place, asks, requestAt}
 use Rattle.generator.specs.declared.Generator.{Generator}
 use Rattle.generator.specs.declared.Ticked.{Ticked}
 
@@ -23,14 +24,20 @@ use Rattle.generator.specs.declared.Ticked.{Ticked}
 abbrev pub positionUsed : Registers → ℕ
 positionUsed r = r .position
 
--- pixel k of visible tick v, where an address is held: Display ticks of four pixels to a line
-unfoldable pub dotOf : Registers → List ℕ → ℕ → ℕ → ℕ → Dot
-dotOf r m address v k =
-    dotAt r (positionUsed r) m (place r address v k) (4 * (v % screen r .display .0) + k) (v / screen r .display .0)
+-- visible tick v of a field among the Display ticks of its lines: where VDisplay begins with a second half, the lead stood before it
+abbrev pub inLines : Registers → Bool → ℕ → ℕ
+inLines r second v = v + lead (inField second (screen r))
+
+-- pixel k of visible tick v of a field, where an address is held: Display ticks of four pixels to a line
+unfoldable pub dotOf : Registers → Bool → List ℕ → ℕ → ℕ → ℕ → Dot
+dotOf r second m address v k =
+    dotAt r (positionUsed r) m (place r address v k)
+    (4 * (inLines r second v % screen r .display .0) + k)
+    (inLines r second v / screen r .display .0)
 
 -- a blank tick puts out four black pixels
 unfoldable pub dots : Registers → List ℕ → Generator → List Dot
-dots r m g = cond (shows r g) (run (dotOf r m (heldAddress r g) (g .seen .0)) 0 4) (run (λ k. black) 0 4)
+dots r m g = cond (shows r g) (run (dotOf r (g .second) m (heldAddress r g) (g .seen .0)) 0 4) (run (λ k. black) 0 4)
 
 -- refusal 20: one of the four pixels is to be read and ends beyond the memory
 unfoldable pub refuses20 : Registers → List ℕ → Generator → Bool
@@ -39,14 +46,14 @@ refuses20 r m g =
     && (transferring (r .control)
     && some (λ k. endsBeyond (pixelBits (r .control)) m (place r (heldAddress r g) (g .seen .0) k)) 4)
 
--- sums clear at the first VDisplay tick; each unblanked colour byte is added
+-- sums clear at the first VDisplay tick of each field, before its pixels are added; each unblanked colour byte is added
 unfoldable pub cleared : Registers → Generator → Sums
-cleared r g = clearedAt (opens (screen r) (g .half .0) (g .at .0)) (g .sums)
+cleared r g = clearedAt (opens (fieldAt r g) (g .half .0) (g .at .0)) (g .sums)
 
 unfoldable pub sumsAfter : Registers → List ℕ → Generator → Sums
 sumsAfter r m g = summedWhere (shows r g) (cleared r g) (dots r m g)
 
--- v counts a frame's visible ticks from 0
+-- v counts a field's visible ticks from 0
 unfoldable pub seenAfter : Registers → Generator → ℕ
 seenAfter r g = cond (visibleAt r g) (g .seen .0 + 1) (g .seen .0)
 
@@ -54,9 +61,10 @@ seenAfter r g = cond (visibleAt r g) (g .seen .0 + 1) (g .seen .0)
 unfoldable pub stepWith : Registers → Generator → Sums → Generator
 stepWith r g sums =
     record {
-      half = record { 0 = nextHalf (screen r) (g .half .0) (g .at .0) };
-      at = record { 0 = nextAt (screen r) (g .at .0) };
-      seen = record { 0 = cond (closes (screen r) (g .half .0) (g .at .0)) 0 (seenAfter r g) };
+      second = nextSecond (fieldAt r g) (g .half .0) (g .at .0);
+      half = record { 0 = nextHalf (fieldAt r g) (g .half .0) (g .at .0) };
+      at = record { 0 = nextAt (fieldAt r g) (g .at .0) };
+      seen = record { 0 = cond (closes (fieldAt r g) (g .half .0) (g .at .0)) 0 (seenAfter r g) };
       held = heldAddress r g;
       asked = cond (visibleAt r g) (asks (r .control) (screen r) (g .seen .0)) (g .asked);
       sums = sums;
@@ -70,9 +78,9 @@ step r m g = stepWith r g (sumsAfter r m g)
 unfoldable pub signalsWith : Registers → Generator → List Dot → Signals
 signalsWith r g four =
     record {
-      sync = not (syncLow (screen r) (plain (r .control)) (g .half .0) (g .at .0));
-      vsync = not (isVSync (period (screen r) (g .half .0)));
-      inactive = not (isVDisplay (period (screen r) (g .half .0)));
+      sync = not (syncLow (fieldAt r g) (plain (r .control)) (g .half .0) (g .at .0));
+      vsync = not (isVSync (period (fieldAt r g) (g .half .0)));
+      inactive = not (isVDisplay (period (fieldAt r g) (g .half .0)));
       blank = not (shows r g);
       request = requestAt r g;
       transfer = transferring (r .control) && transferAt r g;

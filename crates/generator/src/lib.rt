@@ -1,15 +1,14 @@
-// The video timing generator (01, "Lines and frames", "Rows and pixels"): its record, and one tick by value.
+// The video timing generator (01, "Lines and frames", "Rows and pixels"; 02, Q-4): its record, and one tick by value.
 mod output;
 mod stand;
 
 ghost use mathlib.Core.Path.{_≡_};
-ghost use Prim.Native.Nat.{_^_, _<_};
 ghost use Rattle.registers.specs.File.{fileOf, bare};
 ghost use Rattle.generator.specs.Sound.{Sound};
 ghost use Rattle.generator.specs.Stand.{Runs};
 ghost use Rattle.generator.specs.Tick.{tickOf};
 ghost use Rattle.generator.specs.Counters.{displaying, fresh, isStart};
-ghost use Rattle.generator.specs.Rows.{topUsed, rowDivisor};
+ghost use Rattle.generator.specs.Rows.{topUsed};
 use pixel::Sums;
 use registers::Numbers;
 use registers::Registers;
@@ -17,9 +16,10 @@ use signals::Signals;
 use units::HalfLines;
 use units::ScreenUnits;
 
-// The next tick's half line and its number in that half line; the frame's visible ticks so far; the last address; the checksums; the
-// request at the last visible tick.
+// Whether the next tick lies in the second field of an interlaced frame, its half line in the field and its number in that half line; the
+// field's visible ticks so far; the last address; the checksums; the request at the last visible tick.
 pub struct Generator {
+    pub second: bool,
     pub half: HalfLines,
     pub at: ScreenUnits,
     pub seen: ScreenUnits,
@@ -34,6 +34,7 @@ impl Generator {
         ensures generator { λ g. ⌜ g ≡ fresh ⌝ }
     {
         Generator {
+            second: false,
             half: HalfLines(0),
             at: ScreenUnits(0),
             seen: ScreenUnits(0),
@@ -48,10 +49,10 @@ impl Generator {
 pub fn is_start(g: Generator) -> bool
     ensures test { λ b. ⌜ b ≡ isStart g ⌝ }
 {
-    (g.half.0 == 0) & (g.at.0 == 0)
+    !g.second & ((g.half.0 == 0) & (g.at.0 == 0))
 }
 
-// The next tick of a running generator lies in VDisplay, out of flyback.
+// The next tick of a running generator lies in VDisplay of either field, out of flyback.
 pub fn is_displaying(r: Registers, g: Generator) -> bool
     requires { ⌜ Sound r g ⌝ }
     ensures test { λ b. ⌜ b ≡ displaying r g ⌝ }
@@ -64,19 +65,14 @@ pub fn is_displaying(r: Registers, g: Generator) -> bool
     false
 }
 
-// The top of screen that a frame starts at.
-pub fn top_used(n: Numbers) -> u32
-    ensures top { λ a. ⌜ a ≡ topUsed (bare n) ⌝ }
+// The top of screen that a field starts at.
+pub fn top_used(n: Numbers, second: bool) -> u32
+    ensures top { λ a. ⌜ a ≡ topUsed (bare n) second ⌝ }
 {
+    if second {
+        return base::rolled_sum(n.top, control::field_offset(n.control));
+    }
     n.top
-}
-
-// What an address is divided by for its row's number, as a power of two.
-pub fn row_power(n: Numbers) -> u32
-    ensures divisor { λ p. ⌜ 2 ^ p ≡ rowDivisor (bare n) ⌝ }
-    ensures bound { λ p. ⌜ p < 32 ⌝ }
-{
-    control::increment_power(n.control)
 }
 
 // A tick's refusal or 0, what it puts out, and the generator after it.

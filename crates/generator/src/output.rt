@@ -184,6 +184,7 @@ pub fn next_of(n: Numbers, g: Generator, t: Stand, sums: Sums) -> Generator
     let seen = g.seen.0;
     let more = base::choose(m.visible, seen + 1, seen);
     Generator {
+        second: m.second,
         half: HalfLines(m.half),
         at: ScreenUnits(m.at),
         seen: ScreenUnits(base::choose(m.closes, 0, more)),

@@ -1,6 +1,7 @@
 -- `generator::is_displaying` meets its contract: the period of a running generator's next tick.
 use Prim.Native.Nat.{_<_, _^_}
-use mathlib.Core.Bool.{Bool, true}
+use mathlib.Core.Bool.{Bool, true, false}
+use Rattle.units.specs.Parameters.{screenOf}
 use mathlib.Core.Path.{_≡_, sym, _∙_}
 use native.Mathlib.Omega.{arith}
 use Rattle.control.specs.Control.{running}
@@ -20,11 +21,11 @@ half-in r g k on =
     let b = narrow (screen r) (k .accepted on .bounded) in
     omega (arith, k .placed on .half-in, b .vpreequalise .high, b .vsync .high, b .vpostequalise .high, b .vblank .high, b .vdisplay .high)
 
-lit : (r : Registers) (g : Generator) (b : Bool) → running (r .control) ≡ true → b ≡ isVDisplay (period (screen r) (g .half .0)) → b ≡ displaying r g
-unfolding displaying
+lit : (r : Registers) (g : Generator) (b : Bool) → running (r .control) ≡ true → b ≡ isVDisplay (period (screenOf (r .params) false) (g .half .0)) → b ≡ displaying r g
+unfolding displaying screenOf period
 lit r g b on e = rw on e
 
-dark : (r : Registers) (g : Generator) → running (r .control) ≡ Bool.false → Bool.false ≡ displaying r g
+dark : (r : Registers) (g : Generator) → running (r .control) ≡ false → false ≡ displaying r g
 unfolding displaying
 dark r g off = rw off
 

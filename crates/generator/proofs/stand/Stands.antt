@@ -5,54 +5,54 @@ use mathlib.Core.Path.{_≡_, refl, sym, ap, _∙_}
 use native.Mathlib.Omega.{arith}
 use lib.Dec.{ltb, leb, eqb}
 use Rattle.base.specs.Sum.{rolled}
-use Rattle.control.specs.Control.{running, plain, forcedBlank, transferring, increment}
+use Rattle.control.specs.Control.{running, plain, forcedBlank, transferring, increment, rowDivisor}
 use Rattle.units.specs.Parameters.{rowLength}
-use Rattle.screen.specs.Totals.{frameVisible}
 use Rattle.screen.specs.Limits.{Accepted}
 use Rattle.units.specs.declared.Screen.{Screen}
-use Rattle.screen.proofs.limits.Laws.{narrow}
+use Rattle.screen.proofs.limits.Laws.{narrow, bounded-in, accepted-in}
 use Rattle.request.specs.Request.{asking, requested}
 use Rattle.request.specs.declared.Known.{Known}
 use Rattle.registers.specs.declared.Registers.{Registers}
-use Rattle.lines.specs.Lines.{opens, tickNumber, momentOf}
+use Rattle.lines.specs.Lines.{opens, tickNumber, fieldVisible, momentOf}
 use Rattle.lines.specs.declared.Moment.{Moment}
-use Rattle.generator.specs.Rows.{screen, visibleAt, shows, topUsed, taken, transferAt, heldAddress, rowDivisor, place, asks, leads, requestAt}
-use Rattle.generator.specs.Sound.{InFrame, Sound}
+use Rattle.generator.specs.Rows.{screen, fieldAt, visibleAt, shows, topUsed, taken, transferAt, heldAddress, place, asks, leads, requestAt}
+use Rattle.generator.specs.Sound.{Inside, Sound}
 use Rattle.generator.specs.declared.Generator.{Generator}
-use Rattle.generator.proofs.FirstVisible.{firstVisible, leads-by}
+use Rattle.generator.proofs.FirstVisible.{leads-by}
+use Rattle.generator.specs.First.{firstVisible}
 use Rattle.generator.specs.Stand.{Runs, Stands}
 
 -- the one condition, of a running generator
 pub sound-runs : (r : Registers) (g : Generator) → Sound r g → running (r .control) ≡ true → Runs r g
 sound-runs r g z on = record { runs = on; accepted = z .accepted on; placed = z .placed on }
 
--- a running screen's parameters fit 24 bits, and its generator stands inside the frame
-pub runs-in-frame : (r : Registers) (g : Generator) → Runs r g → (s : Screen) → s ≡ screen r → InFrame (r .control) s (g .half .0) (g .at .0)
-runs-in-frame r g k s e =
-    rw e (record { accepted = k .accepted; bounded = narrow (screen r) (k .accepted .bounded); half-in = k .placed .half-in; at-in = k .placed .at-in })
+-- a running screen's parameters fit 24 bits, and its generator stands inside its field
+pub runs-in-field : (r : Registers) (g : Generator) → Runs r g → (s : Screen) → s ≡ fieldAt r g → Inside (r .control) s (g .half .0) (g .at .0)
+runs-in-field r g k s e =
+    rw e (record { accepted = accepted-in (screen r) (g .second) (k .accepted); bounded = bounded-in (screen r) (g .second) (narrow (screen r) (k .accepted .bounded)); half-in = k .placed .half-in; at-in = k .placed .at-in })
 
 -- what is known of a tick for its request
 abbrev known : Bool → ℕ → Generator → Screen → Bool → Bool → Known
 known on n g s visible asks =
-    record { on = on; visible = visible; asks = asks; leads = leads s n; seen = g .seen .0; all = frameVisible s; asked = g .asked }
+    record { on = on; visible = visible; asks = asks; leads = leads s n; seen = g .seen .0; all = fieldVisible s; asked = g .asked }
 
 -- the request at a tick that is not visible, from what its parts answer; the prelude by the number of its tick
-pub request-by : (control : ℕ) (g : Generator) (s : Screen) → Accepted control s → (n first : ℕ) (on out : Bool) → first ≡ firstVisible s → on ≡ transferring control →
-    out ≡ requested (record { on = on; visible = false; asks = false; leads = ltb n first && leb first (n + s .transferdelay .0); seen = g .seen .0; all = frameVisible s; asked = g .asked }) →
+pub request-by : (control : ℕ) (g : Generator) (s : Screen) → Accepted control s → (n first all : ℕ) (on out : Bool) → first ≡ firstVisible s → all ≡ fieldVisible s → on ≡ transferring control →
+    out ≡ requested (record { on = on; visible = false; asks = false; leads = ltb n first && leb first (n + s .transferdelay .0); seen = g .seen .0; all = all; asked = g .asked }) →
     out ≡ requested (known (transferring control) n g s false false)
-request-by control g s ok n first on out ef en eo = eo ∙ rw (en, ef, leads-by control s ok n)
+request-by control g s ok n first all on out ef ea en eo = eo ∙ rw (en, ef, ea, leads-by control s ok n)
 
 -- at a tick that is not visible what a visible one would ask plays no part
 request-between : (on : Bool) (n : ℕ) (g : Generator) (s : Screen) (a : Bool) → requested (known on n g s false false) ≡ requested (known on n g s false a)
 request-between on n g s a = refl
 
-module _ (r : Registers) (g : Generator) (s : Screen) (es : s ≡ screen r) (n : Moment) (en : n ≡ momentOf (screen r) (plain (r .control)) (g .half .0) (g .at .0)) where
+module _ (r : Registers) (g : Generator) (s : Screen) (es : s ≡ fieldAt r g) (n : Moment) (en : n ≡ momentOf (fieldAt r g) (plain (r .control)) (g .half .0) (g .at .0)) where
   visible-is : n .visible ≡ visibleAt r g
   unfolding visibleAt momentOf
   visible-is = ap (λ (x : Moment). x .visible) en
 
   -- the address taken up at VDisplay's first tick
-  pub taken-by : (top t : ℕ) → top ≡ topUsed r → t ≡ cond (n .opens) top (g .held) → t ≡ taken r g
+  pub taken-by : (top t : ℕ) → top ≡ topUsed r (g .second) → t ≡ cond (n .opens) top (g .held) → t ≡ taken r g
   unfolding taken momentOf
   taken-by top t eu et = et ∙ rw (eu, en)
 
@@ -71,7 +71,7 @@ module _ (r : Registers) (g : Generator) (s : Screen) (es : s ≡ screen r) (n :
 
     request-off : q ≡ requestAt r g
     unfolding requestAt
-    request-off = eq ∙ rw (unseen, es) (request-between (transferring (r .control)) (tickNumber (screen r) (g .half .0) (g .at .0)) g (screen r) (asks (r .control) (screen r) (g .seen .0)))
+    request-off = eq ∙ rw (unseen, es) (request-between (transferring (r .control)) (tickNumber (fieldAt r g) (g .half .0) (g .at .0)) g (fieldAt r g) (asks (r .control) (screen r) (g .seen .0)))
 
     shows-off : false ≡ shows r g
     unfolding shows
@@ -95,7 +95,7 @@ module _ (r : Registers) (g : Generator) (s : Screen) (es : s ≡ screen r) (n :
   module _ (on : n .visible ≡ true) (t h d p : ℕ) (o a b : Bool)
       (et : t ≡ taken r g)
       (eh : h ≡ cond (eqb (g .seen .0 % rowLength s) 0 && ltb 0 (g .seen .0)) (rolled t (increment (r .control))) t)
-      (ed : 2 ^ d ≡ rowDivisor r)
+      (ed : 2 ^ d ≡ rowDivisor (r .control))
       (ep : p ≡ (h / 2 ^ d * rowLength s + g .seen .0 % rowLength s) * 4 + 0)
       (eo : o ≡ transferring (r .control))
       (ea : a ≡ asking o (s .meminit .0) (g .seen .0 % rowLength s))

@@ -7,8 +7,9 @@ use mathlib.Core.Bool.{true}
 use Rattle.registers.specs.File.{fileOf, bare}
 use Rattle.registers.specs.declared.Registers.{Registers}
 use Rattle.generator.specs.Stand.{Stands}
+use Rattle.generator.specs.Tick.{inLines}
 use Rattle.generator.proofs.Bare.{stands-whole}
-use Rattle.generator.proofs.Puts.{held-by, dots-lit, covered-by, uncovered-by, dots-dark, display-some, display-most, line-in, spot-column, spot-line, spot-by}
+use Rattle.generator.proofs.Puts.{held-by, dots-lit, covered-by, uncovered-by, dots-dark, display-some, display-most, line-in, spot-column, spot-by}
 use Rattle.generator.proofs.output.dots_of.Statement.{statement}
 use Rattle.generator.proofs.output.dots_of.Tie as tie
 
@@ -29,12 +30,10 @@ module _ (start : tie.Start) where
     column : start .args .t .moment .column < 2 ^ 26
     column =
         rw (spot-column (bare (start .args .n)) (start .args .g) (start .pre .0) (start .args .t) (start .pre .1 .0) on)
-        (omega (arith, mod-lt (start .args .g .seen .0) some, most))
+        (omega (arith, mod-lt (inLines (bare (start .args .n)) (start .args .g .second) (start .args .g .seen .0)) some, most))
 
     line : start .args .t .moment .line < 2 ^ 32
-    line =
-        rw (spot-line (bare (start .args .n)) (start .args .g) (start .pre .0) (start .args .t) (start .pre .1 .0) on)
-        (line-in (bare (start .args .n)) (start .args .g) (start .pre .0) (start .args .t .screen) (start .pre .1 .0 .screen-is))
+    line = line-in (bare (start .args .n)) (start .args .g) (start .pre .0) (start .args .t) (start .pre .1 .0)
 
 -- the first pixel's place and column leave room for three more
 near : (c : tie.After-spot-of) → (c .spot-of .result .place < 2 ^ 60) × (c .spot-of .result .x < 2 ^ 28)
@@ -47,8 +46,8 @@ near c =
 spotted : (c : tie.After-spot-of) →
     c .spot-of .result ≡ record {
       place = c .before .before .before .args .t .place;
-      x = 4 * (c .before .before .before .args .g .seen .0 % c .before .before .before .args .t .screen .display .0);
-      y = c .before .before .before .args .g .seen .0 / c .before .before .before .args .t .screen .display .0;
+      x = 4 * (inLines (bare (c .before .before .before .args .n)) (c .before .before .before .args .g .second) (c .before .before .before .args .g .seen .0) % c .before .before .before .args .t .screen .display .0);
+      y = inLines (bare (c .before .before .before .args .n)) (c .before .before .before .args .g .second) (c .before .before .before .args .g .seen .0) / c .before .before .before .args .t .screen .display .0;
     }
 spotted c =
     let start = c .before .before .before in

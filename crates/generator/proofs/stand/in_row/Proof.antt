@@ -3,13 +3,13 @@ use native.Mathlib.Nat.{mod-lt}
 use native.Mathlib.Omega.{arith}
 use Rattle.registers.specs.File.{bare}
 use Rattle.screen.specs.Limits.{Bounded}
-use Rattle.generator.proofs.stand.Stands.{runs-in-frame, stands-in}
+use Rattle.generator.proofs.stand.Stands.{runs-in-field, stands-in}
 use Rattle.generator.proofs.Rows.{row-some, row-most}
 use Rattle.generator.proofs.stand.in_row.Statement.{statement}
 use Rattle.generator.proofs.stand.in_row.Tie as tie
 
 counts : (start : tie.Start) → Bounded 0xFFFFFF (start .args .s)
-counts start = runs-in-frame (bare (start .args .n)) (start .args .g) (start .pre .0) _ (start .pre .1 .0) .bounded
+counts start = runs-in-field (bare (start .args .n)) (start .args .g) (start .pre .0) _ (start .pre .1 .0) .bounded
 
 pub in-row-spec : {M : Type 1} → statement M
 in-row-spec =
@@ -21,7 +21,7 @@ in-row-spec =
     (λ c κs. tt)
     (λ c κs.
     let start = c .before .before .before in (
-      c .row-power .ensures .1,
+      omega (arith, c .divisor-power .ensures .1),
       mod-lt (start .args .g .seen .0) (row-some _ (counts start)),
       row-most _ (counts start),
     ))
@@ -38,7 +38,7 @@ in-row-spec =
     stands-in (bare (start .args .n)) (start .args .g) (start .args .s) (start .pre .1 .0) (start .args .moment) (start .pre .1 .1 .0) (start .pre .1 .1 .1 .0) _ _ _ _ _ _ _
     (start .pre .1 .1 .1 .1)
     (held .held-of .ensures)
-    (power .row-power .ensures .0)
+    (power .divisor-power .ensures .0)
     (place .place-of .ensures .0)
     (on .is-transferring .ensures)
     (asking .is-asking .ensures)
