@@ -1,5 +1,5 @@
-// The bench screen ticked twice side by side, with the generator lent and by value: a frame and ten ticks with the sixteen bytes that a
-// frame shows, with one byte less, and stopped. Prints for each how many calls were accepted and at how many the two differed.
+// Two screens ticked twice side by side, with the generator lent and by value: the bench screen with the sixteen bytes that a frame shows, with
+// one byte less, and stopped; then an interlaced one. Prints for each how many calls were accepted and at how many the two differed.
 ghost use Prim.Native.Nat.{_+_, _<_};
 ghost use mathlib.Core.Path.{_≡_};
 ghost use lib.ListN.{length};
@@ -12,13 +12,15 @@ use pixel::Sums;
 use registers::Registers;
 use signals::Signals;
 
-// A frame of the bench screen and ten ticks.
-const CALLS: u64 = 73;
+// A frame of the interlaced screen and ten ticks.
+const CALLS: u64 = 108;
 
-// Control A at 8 bits, increment 1, transfers on, cursor off: running and stopped.
+// Control A at 8 bits, increment 1, transfers on, cursor off: running and stopped; and interlaced, increment 2, running.
 const RUNNING: u32 = 0xB00001;
 
 const STOPPED: u32 = 0xB00000;
+
+const INTERLACED: u32 = 0xB01003;
 
 // One tick with the record lent, answered as the tick by value is.
 fn lent_tick(r: Registers, mut g: Generator, memory: &[u8]) -> Ticked
@@ -37,7 +39,8 @@ fn same_record(a: Generator, b: Generator) -> bool {
     let x: Sums = a.sums;
     let y: Sums = b.sums;
     let sums = (x.red == y.red) & (x.green == y.green) & (x.blue == y.blue);
-    let place = (a.half.0 == b.half.0) & (a.at.0 == b.at.0) & (a.seen.0 == b.seen.0);
+    let line = (a.second == b.second) & (a.half.0 == b.half.0) & (a.at.0 == b.at.0);
+    let place = line & (a.seen.0 == b.seen.0);
     place & (a.held == b.held) & (a.asked == b.asked) & sums
 }
 
@@ -114,11 +117,10 @@ fn writes(before: Machine, address: u32, values: &[u32]) -> Machine
     m
 }
 
-// The bench screen from the beginning, with sixteen colours and a full mask, running.
-fn bench() -> Machine
+// A screen from the beginning, with sixteen colours and a full mask, under a control word.
+fn started(screen: [u32; 14], control: u32) -> Machine
     ensures sound { λ m. ⌜ Sound (m .regs) (m .generator) ⌝ }
 {
-    let screen: [u32; 14] = [1, 3, 2, 1, 4, 1, 1, 1, 2, 4, 14, 0, 1, 1];
     let colours: [u32; 16] = [
         0x400000,
         0x410203,
@@ -141,14 +143,18 @@ fn bench() -> Machine
     let set = writes(begun, 0x021, &screen);
     let coloured = writes(set, 0x100, &colours);
     let masked = write(coloured, 0x040, 0xFFFFFF);
-    write(masked, 0x060, RUNNING)
+    write(masked, 0x060, control)
 }
 
 fn main() {
     let memory: [u8; 16] = [15, 14, 13, 12, 11, 10, 9, 8, 7, 6, 5, 4, 3, 2, 1, 0];
-    let m = bench();
+    let m = started([1, 3, 2, 1, 4, 1, 1, 1, 2, 4, 14, 0, 1, 1], RUNNING);
     run(b"16 bytes: ", m.regs, m.generator, &memory);
     run(b"15 bytes: ", m.regs, m.generator, &memory[..15]);
     let stopped = write(m, 0x060, STOPPED);
     run(b"stopped: ", stopped.regs, stopped.generator, &memory);
+    // as many bytes as its two fields reach
+    let longer = [9u8; 88];
+    let laced = started([1, 3, 6, 1, 4, 1, 1, 1, 1, 3, 14, 0, 2, 1], INTERLACED);
+    run(b"interlaced: ", laced.regs, laced.generator, &longer);
 }

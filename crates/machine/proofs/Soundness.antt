@@ -13,16 +13,17 @@ use Rattle.registers.specs.File.{zeros, storeIn}
 use Rattle.registers.specs.declared.map.Place.{Place}
 use Rattle.registers.proofs.map.Laws.{control-open}
 use Rattle.registers.proofs.Laws.{control-stored, control-kept, params-kept, zeros-in-widths, stored-in-widths}
-use Rattle.generator.specs.Rows.{screen}
+use Rattle.generator.specs.Rows.{screenUnder, screen, fieldAt}
 use Rattle.generator.specs.Counters.{fresh}
 use Rattle.generator.specs.Sound.{Placed, Rolled}
 use Rattle.generator.proofs.Kept.{fresh-placed, fresh-rolled, tick-sound}
-use Rattle.machine.specs.Access.{startLimit, writeRefusal}
+use Rattle.machine.specs.Access.{changesFormat, startLimit, writeRefusal}
 use Rattle.machine.specs.Rules.{beginning, starts, stored, written, answered, advanced}
 use Rattle.machine.specs.Calls.{Call, write, read, tick, afterAll}
 use Rattle.machine.specs.Conditions.{SoundMachine}
 use Rattle.machine.specs.declared.Machine.{Machine}
-use Rattle.machine.proofs.access.Passed.{Passed, passed}
+use Rattle.machine.proofs.access.Passed.{Passed, passed, format-kept}
+use Rattle.base.proofs.Bools.{neither-holds}
 
 pub beginning-sound : SoundMachine beginning
 unfolding zeros
@@ -31,39 +32,52 @@ beginning-sound =
 
 module _ (m : Machine) (z : SoundMachine m) (p : Place) (value : ℕ) (q : Passed (m .regs) p value) where
   -- a control write with bit 0 set has kept the limits
-  control-accepted : isControl p ≡ true → running value ≡ true → Accepted value (screen (m .regs))
+  control-accepted : isControl p ≡ true → running value ≡ true → Accepted value (screenUnder (m .regs) value)
   unfolding startLimit
-  control-accepted c on = limits.accepted value (screen (m .regs)) (simp (c, on) at (q .limits))
+  control-accepted c on = limits.accepted value (screenUnder (m .regs) value) (simp (c, on) at (q .limits))
 
-  same-screen : isParameter p ≡ false → screen (storeIn (m .regs) p value) ≡ screen (m .regs)
-  same-screen e = rw (params-kept (m .regs) p value e)
+  -- the screen then: as it was, or under the new control word
+  same-screen : isControl p ≡ false → isParameter p ≡ false → screen (storeIn (m .regs) p value) ≡ screen (m .regs)
+  same-screen c e = rw (params-kept (m .regs) p value e, control-kept (m .regs) p value c)
+
+  new-screen : isControl p ≡ true → screen (storeIn (m .regs) p value) ≡ screenUnder (m .regs) value
+  new-screen c = rw (params-kept (m .regs) p value (control-open p c), control-stored (m .regs) p value c)
+
+  -- a control write has passed both halves of 4
+  known : isControl p ≡ true → (outside value ≡ false) × (changesFormat (m .regs) value ≡ false)
+  known c = neither-holds (outside value) (changesFormat (m .regs) value) (simp c at (q .known))
+
+  -- one that leaves the generator running finds its format
+  same-format : isControl p ≡ true → running (m .regs .control) ≡ true → running value ≡ true → screen (storeIn (m .regs) p value) ≡ screen (m .regs)
+  same-format c on stays = new-screen c ∙ rw (format-kept (m .regs) value on stays (known c .1))
 
   -- a write at a parameter found the generator stopped
   stopped : isParameter p ≡ true → running (m .regs .control) ≡ false
   stopped e = simp e at (q .idle)
 
   build : (c : Bool) → isControl p ≡ c → outside (storeIn (m .regs) p value .control) ≡ false
-  build true c = rw (control-stored (m .regs) p value c) (simp c at (q .known))
+  build true c = rw (control-stored (m .regs) p value c) (known c .0)
   build false c = rw (control-kept (m .regs) p value c) (z .in-build)
 
   accepted-on : (c d : Bool) → isControl p ≡ c → isParameter p ≡ d → running (storeIn (m .regs) p value .control) ≡ true → Accepted (storeIn (m .regs) p value .control) (screen (storeIn (m .regs) p value))
   accepted-on true d c e on =
       let k = control-stored (m .regs) p value c in
-      rw (k, same-screen (control-open p c)) (control-accepted c (rw k at on))
+      rw (new-screen c, k) (control-accepted c (rw k at on))
   accepted-on false true c e on =
       absurd (true≢false (sym (rw (control-kept (m .regs) p value c) at on) ∙ stopped e))
   accepted-on false false c e on =
       let k = control-kept (m .regs) p value c in
-      rw (k, same-screen e) (z .accepted (rw k at on))
+      rw (same-screen c e, k) (z .accepted (rw k at on))
 
   -- a start places a fresh generator; any other write finds it where it was
-  placed-on : (c d s : Bool) → isControl p ≡ c → isParameter p ≡ d → starts (m .regs) p value ≡ s → running (storeIn (m .regs) p value .control) ≡ true → Placed (screen (storeIn (m .regs) p value)) (cond s fresh (m .generator))
+  placed-on : (c d s : Bool) → isControl p ≡ c → isParameter p ≡ d → starts (m .regs) p value ≡ s → running (storeIn (m .regs) p value .control) ≡ true → Placed (fieldAt (storeIn (m .regs) p value) (cond s fresh (m .generator))) (cond s fresh (m .generator))
   placed-on c d true ec ed s on = fresh-placed (storeIn (m .regs) p value) (accepted-on c d ec ed on)
   placed-on true d false c e s on =
       let v : running value ≡ true = rw (control-stored (m .regs) p value c) at on in
-      rw (same-screen (control-open p c)) (z .placed (not-false (running (m .regs .control)) (simp (c, v) at s)))
+      let ran = not-false (running (m .regs .control)) (simp (c, v) at s) in
+      rw (same-format c ran v) (z .placed ran)
   placed-on false true false c e s on = absurd (true≢false (sym (rw (control-kept (m .regs) p value c) at on) ∙ stopped e))
-  placed-on false false false c e s on = rw (same-screen e) (z .placed (rw (control-kept (m .regs) p value c) at on))
+  placed-on false false false c e s on = rw (same-screen c e) (z .placed (rw (control-kept (m .regs) p value c) at on))
 
   rolled-on : (s : Bool) → Rolled (cond s fresh (m .generator))
   rolled-on true = fresh-rolled

@@ -6,7 +6,7 @@ use mathlib.Core.List.{List}
 use mathlib.Core.Path.{_≡_, refl, sym, _∙_}
 use lib.Dec.{eqb}
 use borrow.Author.Tests.{ne-eqb, eq-eqb, eqb-true}
-use Rattle.control.specs.Control.{running}
+use Rattle.control.specs.Control.{running, outside}
 use Rattle.registers.specs.Map.{placeOf, isReserved}
 use Rattle.registers.specs.File.{valueIn}
 use Rattle.registers.specs.declared.map.Place.the-variants.{Control}
@@ -17,7 +17,7 @@ use Rattle.generator.specs.Counters.{fresh}
 use Rattle.generator.specs.Tick.{tickRefusal, tickOf}
 use Rattle.signals.specs.Signals.{silent}
 use Rattle.generator.specs.declared.Generator.{Generator}
-use Rattle.machine.specs.Access.{startLimit, writeRefusal}
+use Rattle.machine.specs.Access.{changesFormat, startLimit, writeRefusal}
 use Rattle.machine.specs.Rules.{stored, written, readRefusal, valueAt, answered, advanced}
 use Rattle.machine.specs.Calls.{Call, write, read, tick, afterCall, Spares}
 use Rattle.machine.specs.declared.Machine.{Machine}
@@ -59,13 +59,14 @@ tick-refused-same m memory n =
 pub starts-if : (m : Machine) (value : ℕ) → running value ≡ true → Startable m value → written m 0x060 value .refusal ≡ 0
 unfolding written placeOf startLimit
 starts-if m value on s =
-    accepted (m .regs) Control value (record { opened = refl; narrow = s .narrow; idle = refl; known = s .in-build; limits = simp on (s .limits) })
+    accepted (m .regs) Control value (record { opened = refl; narrow = s .narrow; idle = refl; known = simp (s .in-build, s .keeps-format); limits = simp on (s .limits) })
 
 pub starts-only-if : (m : Machine) (value : ℕ) → running value ≡ true → written m 0x060 value .refusal ≡ 0 → Startable m value
 unfolding written placeOf startLimit
 starts-only-if m value on e =
     let p = passed (m .regs) Control value e in
-    record { narrow = p .narrow; in-build = p .known; limits = simp on at (p .limits) }
+    let known = neither-holds (outside value) (changesFormat (m .regs) value) (p .known) in
+    record { narrow = p .narrow; in-build = known .0; keeps-format = known .1; limits = simp on at (p .limits) }
 
 -- going from 0 to 1 starts the generator afresh; a write that leaves it running does not restart it
 pub started-fresh : (m : Machine) (value : ℕ) → running value ≡ true → running (m .regs .control) ≡ false → written m 0x060 value .refusal ≡ 0 → written m 0x060 value .machine .generator ≡ fresh

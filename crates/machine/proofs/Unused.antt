@@ -7,18 +7,19 @@ use native.Mathlib.Omega.{arith}
 use lib.Dec.{eqb}
 use Rattle.base.specs.Count.{some}
 use Rattle.base.proofs.Run.{run-same}
-use Rattle.control.specs.Control.{field, bit, running, plain, forcedBlank, transferring, cursorOn, outside, depth, increment}
+use Rattle.control.specs.Control.{field, bit, running, interlaced, plain, forcedBlank, transferring, cursorOn, outside, depth, incrementCode, increment, rowDivisor}
 use Rattle.screen.specs.Limits.{laterLimit, limitOf}
 use Rattle.registers.specs.declared.Registers.{Registers}
 use Rattle.memory.specs.Memory.{pixelShown}
 use Rattle.pixel.specs.Dot.{dotAt}
 use Rattle.signals.specs.declared.Dot.{Dot}
 use Rattle.pixel.specs.declared.Sums.{Sums}
-use Rattle.lines.specs.Lines.{period, lineFrom, secondHalf, inLine, visible, opens, closes, nextHalf, nextAt, visibleBefore}
-use Rattle.generator.specs.Rows.{screen, visibleAt, shows, topUsed, taken, transferAt, heldAddress, rowDivisor, place, asks, leads, requestAt}
+use Rattle.lines.specs.Lines.{period, lineFrom, lineOf, secondHalf, inLine, visible, lead, columnOf, linesAbove, opens, closes, nextSecond, nextHalf, nextAt, visibleBefore, fieldVisible}
+use Rattle.generator.specs.Rows.{screen, fieldAt, visibleAt, shows, topUsed, taken, transferAt, heldAddress, place, asks, leads, requestAt}
 use Rattle.generator.specs.Tick.{dotOf, dots, refuses20, cleared, sumsAfter, seenAfter, stepWith, signalsWith, tickRefusal, tickOf}
 use Rattle.generator.specs.declared.Generator.{Generator}
 use Rattle.generator.specs.declared.Ticked.{Ticked}
+use Rattle.machine.specs.Access.{changesFormat}
 use Rattle.machine.specs.Alike.{SameMode, Alike, SameColours}
 
 -- a field from bit 15 on is one of the word past bit 10
@@ -57,11 +58,22 @@ module _ (c d : ℕ) (m : SameMode c d) where
   same-depth : depth d ≡ depth c
   same-depth = omega (arith, m .high)
 
+  pub same-interlaced : interlaced d ≡ interlaced c
+  same-interlaced = same-bit 1 (bit-1 c d (m .low))
+
+  same-code : incrementCode d ≡ incrementCode c
+  same-code = omega (arith, m .high)
+
   same-increment : increment d ≡ increment c
-  same-increment = let e : field 12 2 d ≡ field 12 2 c = omega (arith, m .high) in rw e
+  unfolding increment
+  same-increment = rw (same-interlaced, same-code)
+
+  same-divisor : rowDivisor d ≡ rowDivisor c
+  unfolding rowDivisor
+  same-divisor = rw (same-interlaced, same-code, same-increment)
 
   pub same-outside : outside d ≡ outside c
-  same-outside = rw (bit-1 c d (m .low), m .middle, bit-11 c d (m .high), high-field c d (m .high), bit-22 c d (m .high))
+  same-outside = rw (m .middle, bit-11 c d (m .high), high-field c d (m .high), bit-22 c d (m .high))
 
 either : (b : Bool) (x y z : Ticked) → SameColours x y → SameColours (cond b x z) (cond b y z)
 either true x y z e = e
@@ -79,6 +91,10 @@ module _ (r other : Registers) (n : ℕ) (a : Alike r other n) where
   unfolding limitOf laterLimit
   same-limit = rw (a .line-start, same-depth c d (a .mode))
 
+  -- the same words change the format
+  pub same-changes : (value : ℕ) → changesFormat other value ≡ changesFormat r value
+  same-changes value = rw (same-running c d (a .mode), same-interlaced c d (a .mode))
+
   module _ (g : Generator) where
     pub same-visible : visibleAt other g ≡ visibleAt r g
     unfolding visibleAt visible period inLine secondHalf lineFrom
@@ -86,7 +102,7 @@ module _ (r other : Registers) (n : ℕ) (a : Alike r other n) where
 
     same-taken : taken other g ≡ taken r g
     unfolding topUsed taken opens
-    same-taken = rw (a .line-start, a .top)
+    same-taken = rw (a .line-start, a .top, same-code c d (a .mode))
 
     same-transfer : transferAt other g ≡ transferAt r g
     unfolding transferAt
@@ -100,32 +116,36 @@ module _ (r other : Registers) (n : ℕ) (a : Alike r other n) where
     unfolding asks
     same-asks v = rw (a .line-start, same-transferring c d (a .mode))
 
-    same-leads : (k : ℕ) → leads (screen other) k ≡ leads (screen r) k
+    same-leads : (k : ℕ) → leads (fieldAt other g) k ≡ leads (fieldAt r g) k
     unfolding leads visibleBefore visible period inLine secondHalf lineFrom
     same-leads k = rw (a .line-start)
 
+    same-all : fieldVisible (fieldAt other g) ≡ fieldVisible (fieldAt r g)
+    unfolding fieldVisible linesAbove lineOf columnOf lead inLine secondHalf lineFrom
+    same-all = rw (a .line-start)
+
     same-request : requestAt other g ≡ requestAt r g
     unfolding requestAt
-    same-request = rw (same-visible, same-asks (g .seen .0), same-leads, same-transferring c d (a .mode), a .line-start)
+    same-request = rw (same-visible, same-asks (g .seen .0), same-leads, same-all, same-transferring c d (a .mode), a .line-start)
 
     same-shows : shows other g ≡ shows r g
     unfolding shows
     same-shows = rw (same-visible, same-blank c d (a .mode))
 
   same-place : (address v k : ℕ) → place other address v k ≡ place r address v k
-  unfolding rowDivisor place
-  same-place address v k = rw (a .line-start, same-increment c d (a .mode))
+  unfolding place
+  same-place address v k = rw (a .line-start, same-divisor c d (a .mode))
 
-  same-dot : (m : List ℕ) (address v k : ℕ) → dotOf other m address v k ≡ dotOf r m address v k
-  unfolding dotOf dotAt pixelShown
-  same-dot m address v k =
+  same-dot : (second : Bool) (m : List ℕ) (address v k : ℕ) → dotOf other second m address v k ≡ dotOf r second m address v k
+  unfolding dotOf dotAt pixelShown lead inLine secondHalf lineFrom
+  same-dot second m address v k =
       rw (same-place address v k, a .line-start, a .mask, a .colours, a .position, a .palette, a .store, same-transferring c d (a .mode), same-cursor c d (a .mode), same-depth c d (a .mode))
 
   module _ (m : List ℕ) (g : Generator) where
     same-dots : dots other m g ≡ dots r m g
     unfolding dots
     same-dots =
-        rw (same-shows g, same-held g, run-same (dotOf other m (heldAddress r g) (g .seen .0)) (dotOf r m (heldAddress r g) (g .seen .0)) 0 0 4 (λ k p. same-dot m (heldAddress r g) (g .seen .0) (0 + k)))
+        rw (same-shows g, same-held g, run-same (dotOf other (g .second) m (heldAddress r g) (g .seen .0)) (dotOf r (g .second) m (heldAddress r g) (g .seen .0)) 0 0 4 (λ k p. same-dot (g .second) m (heldAddress r g) (g .seen .0) (0 + k)))
 
     same-refuses : refuses20 other m g ≡ refuses20 r m g
     unfolding refuses20 some
@@ -136,7 +156,7 @@ module _ (r other : Registers) (n : ℕ) (a : Alike r other n) where
     same-sums = rw (same-shows g, same-dots, a .line-start)
 
     same-step : (sums : Sums) → stepWith other g sums ≡ stepWith r g sums
-    unfolding stepWith seenAfter closes nextHalf nextAt
+    unfolding stepWith seenAfter closes nextSecond nextHalf nextAt
     same-step sums = rw (same-visible g, same-held g, same-asks g (g .seen .0), a .line-start)
 
     same-signals : plain d ≡ plain c → (four : List Dot) → signalsWith other g four ≡ signalsWith r g four

@@ -31,6 +31,8 @@ withLineStart s n =
       linestart = record { 0 = n };
       meminit = s .meminit;
       transferdelay = s .transferdelay;
+      interlaced = s .interlaced;
+      second = s .second;
     }
 
 pub record Alike (r other : Registers) (n : ℕ) : Type 0 where

@@ -1,2 +1,3 @@
--- The statement of the starred rows.
+-- The statements of the starred rows and of the interlaced bench screen.
 pub mod Starred
+pub mod Interlaced

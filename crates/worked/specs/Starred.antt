@@ -1,19 +1,17 @@
 -- The bench screen and its neighbours (01, the section of that name): the starred rows, question and answer side by side.
 -- Assumes nothing.
-use Prim.Native.Nat.{ℕ, zero, suc}
+use Prim.Native.Nat.{ℕ}
 use mathlib.Core.Bool.{Bool, not, cond}
 use mathlib.Core.List.{List, [], _∷_, _++_, map}
-use mathlib.Core.Path.{_≡_}
 use lib.ListN.{length, set, replicate}
-use Rattle.units.specs.Parameters.{screenOf}
 use Rattle.screen.specs.Bench.{benchParameters}
 use Rattle.screen.specs.Totals.{totalsOf}
-use Rattle.screen.specs.declared.totals.Totals.{Totals}
 use Rattle.signals.specs.declared.Dot.{Dot}
 use Rattle.signals.specs.declared.Signals.{Signals}
-use Rattle.machine.specs.Rules.{beginning, written, advanced}
+use Rattle.machine.specs.Rules.{beginning, written}
 use Rattle.machine.specs.Calls.{write, afterAll, writesFrom}
 use Rattle.machine.specs.declared.Machine.{Machine}
+use Rattle.worked.specs.Table.{Row, row, puts, those, numbers}
 
 -- control A at 8 bits, increment 1, transfers on, cursor off, running: tesselated, and plain
 abbrev pub tesselated : ℕ
@@ -26,26 +24,17 @@ plain = 0xB00011
 unfoldable pub started : ℕ → Machine
 started control = afterAll beginning (writesFrom 0x021 benchParameters ++ (write 0x060 control ∷ []))
 
--- what its next n ticks put out, with 16 bytes of picture memory
-unfoldable pub puts : Machine → ℕ → List Signals
-puts m zero = []
-puts m (suc n) = advanced m (replicate 16 5) .signals ∷ puts (advanced m (replicate 16 5) .machine) n
-
--- the numbers of those that pass a test, counted from `from`
-unfoldable pub those : (Signals → Bool) → ℕ → List Signals → List ℕ
-those test from [] = []
-those test from (s ∷ rest) = cond (test s) (from ∷ those test (suc from) rest) (those test (suc from) rest)
+-- 16 bytes of picture memory
+abbrev pub fives : List ℕ
+fives = replicate 16 5
 
 -- the numbers of one frame's ticks that pass
 unfoldable pub ticks : ℕ → (Signals → Bool) → List ℕ
-ticks control test = those test 0 (puts (started control) 63)
-
-abbrev pub numbers : Totals → List ℕ
-numbers t = t .ticks .0 ∷ t .visible .0 ∷ t .transfers ∷ t .pixels .0 ∷ []
+ticks control test = those test 0 (puts fives (started control) 63)
 
 -- the four totals of the bench screen
 abbrev pub totals : List ℕ
-totals = numbers (totalsOf tesselated (screenOf benchParameters))
+totals = numbers (totalsOf tesselated benchParameters)
 
 -- what the control write answers that starts a screen, its parameters written from the beginning on; and one with a parameter changed
 abbrev pub start : List ℕ → ℕ
@@ -65,13 +54,6 @@ coloured =
     (writesFrom 0x021 benchParameters
     ++ (write 0x105 0x102030 ∷ write 0x100 0x0A0B0C ∷ write 0x040 0xFF00FF ∷ write 0x060 tesselated ∷ []))
 
-pub record Row : Type 0 where
-  pub asked : List ℕ
-  pub answer : List ℕ
-
-abbrev pub row : List ℕ → List ℕ → Row
-row asked answer = record { asked = asked; answer = answer }
-
 -- the starred rows, in 01's order
 unfoldable pub starred : List Row
 starred =
@@ -89,10 +71,5 @@ starred =
     row (neighbour 2 9) (12 ∷ []) ∷
     row (neighbour 2 3) (15 ∷ []) ∷
     row (neighbour 8 3) (16 ∷ []) ∷
-    row (firstColours (puts coloured 63)) (0x100B30 ∷ 0x100B30 ∷ 0x100B30 ∷ 0x100B30 ∷ []) ∷
+    row (firstColours (puts fives coloured 63)) (0x100B30 ∷ 0x100B30 ∷ 0x100B30 ∷ 0x100B30 ∷ []) ∷
     []
-
--- each row's question has its answer
-abbrev pub Holds : List Row → Type 0
-Holds [] = Unit
-Holds (r ∷ rest) = (r .asked ≡ r .answer) × Holds rest

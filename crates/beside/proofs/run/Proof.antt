@@ -17,10 +17,10 @@ bit false = omega arith
 
 abbrev Inv-loop : tie.InvT-loop
 Inv-loop name r memory lent₀ kept₀ calls₀ accepted₀ unlike₀ lent kept calls accepted unlike =
-    ((calls ≤ 73) × ((accepted ≤ calls) × (unlike ≤ calls))) × ((Sound r lent) × (Sound r kept))
+    ((calls ≤ 108) × ((accepted ≤ calls) × (unlike ≤ calls))) × ((Sound r lent) × (Sound r kept))
 
 abbrev μ-loop : tie.MeasureT-loop
-μ-loop name r memory lent₀ kept₀ calls₀ accepted₀ unlike₀ lent kept calls accepted unlike = 73 - calls
+μ-loop name r memory lent₀ kept₀ calls₀ accepted₀ unlike₀ lent kept calls accepted unlike = 108 - calls
 
 loop-holds : tie.Need-loop-holds Inv-loop μ-loop
 loop-holds c = ((omega arith, (omega arith, omega arith)), (c .before .before .pre, c .before .before .pre))

@@ -1,4 +1,4 @@
--- `machine::access::start_limit` meets its contract: the limits under the new control value.
+-- `machine::access::start_limit` meets its contract: the limits under the new control value, in its format.
 use Rattle.machine.specs.Access.{startLimit}
 use Rattle.machine.proofs.access.start_limit.Statement.{statement}
 use Rattle.machine.proofs.access.start_limit.Tie as tie
@@ -13,4 +13,5 @@ start-limit-spec =
     (λ c κs. tt)
     (λ c κs. tt)
     (λ c κs. tt)
-    (λ c. rw (c .first .ensures, c .before .limit .ensures, c .before .before .is-running .ensures, c .before .before .before .is-control .ensures, c .before .before .before .before .screen-of .ensures)))
+    (λ c κs. tt)
+    (λ c. rw (c .first .ensures, c .before .limit .ensures, c .before .before .is-running .ensures, c .before .before .before .is-control .ensures, c .before .before .before .before .screen-of .ensures, c .before .before .before .before .before .is-interlaced .ensures)))
