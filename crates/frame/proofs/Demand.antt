@@ -1,36 +1,43 @@
--- Demand 3 of every frame that is ready to start: its counts and lists, by one induction over its ticks each, from what its visible ticks
--- add. Assumes nothing.
-use Prim.Native.Nat.{ℕ, zero, suc, _+_, _-_, _*_, _/_, _%_, _≤_, _<_}
-use mathlib.Core.Bool.{Bool, true, false, not, cond, _&&_}
+-- Demand 3 of every frame that is ready to start: the counts and lists of a field, by one induction over its ticks each, from what its visible
+-- ticks add; and a frame has those of its one field or both. Assumes nothing.
+use Prim.Native.Nat.{ℕ, zero, suc, _+_, _-_, _*_, _/_, _%_, _^_, _≤_, _<_}
+use mathlib.Core.Bool.{Bool, true, false, not, cond, _&&_, true≢false}
 use mathlib.Core.List.{List, [], _∷_, _++_}
-use mathlib.Core.Path.{_≡_, refl, ap, _∙_}
-use native.Mathlib.Nat.{mod-lt, mod-eq-of-lt, div-eq-of-lt-le, div-lt-iff-lt-mul, div-add-mod', mul-le-mul-right, zero-add}
+use mathlib.Core.Logic.{⊎-elim}
+use mathlib.Core.Path.{_≡_, refl, sym, ap, subst, _∙_}
+use native.Mathlib.Nat.{mod-lt, mod-eq-of-lt, mod-add-mod, add-zero, div-eq-of-lt-le, div-lt-iff-lt-mul, div-add-mod', mul-le-mul-right, zero-add}
 use native.Mathlib.Omega.{arith}
 use borrow.Author.Tests.{eqb-true, eqb-false, ltb-false, le-ltb}
 use lib.Dec.{ltb, eqb}
 use lib.ListN.{length, length-append}
 use Rattle.base.specs.Count.{count, some, run}
 use Rattle.base.proofs.Run.{run-length, run-append, run-same}
-use Rattle.control.specs.Control.{forcedBlank, transferring, increment, pixelBits}
-use Rattle.units.specs.Parameters.{rowLength}
+use Rattle.control.specs.Control.{running, forcedBlank, transferring, increment, offset, pixelBits}
+use Rattle.units.specs.Parameters.{inField, fieldTicks, rowLength}
 use Rattle.screen.specs.Limits.{Accepted}
 use Rattle.screen.specs.Totals.{frameTicks, frameVisible, frameTransfers, framePixels, roundedUp}
 use Rattle.units.specs.declared.Screen.{Screen}
 use Rattle.registers.specs.declared.Registers.{Registers}
 use Rattle.memory.specs.Memory.{endsBeyond}
-use Rattle.pixel.specs.Dot.{dotAt}
-use Rattle.generator.specs.Rows.{screen, visibleAt, shows, topUsed, transferAt, heldAddress, place}
+use Rattle.pixel.specs.Sums.{none, summed}
+use Rattle.generator.specs.Rows.{screen, fieldAt, visibleAt, shows, topUsed, transferAt, heldAddress, place}
 use Rattle.generator.specs.Tick.{positionUsed, dotOf, refuses20, seenAfter, signals, signalsWith, tickRefusal, tickOf, after}
+use Rattle.generator.specs.Sound.{Sound}
 use Rattle.generator.specs.declared.Generator.{Generator}
 use Rattle.signals.specs.declared.Signals.{Signals}
-use Rattle.frame.specs.Frame.{AtStart, rowAddress, addressAt, placeAt, dotFor, pictureRefuses20, frameEnd, Whole}
-use Rattle.frame.specs.Demand.{answer, isShown, isTransfer, addressesAnswered, placesShown, firstPlace, Ready, Demand3}
-use Rattle.base.proofs.Some.{some-none, some-at}
-use Rattle.generator.proofs.FirstVisible.{frame-some}
+use Rattle.lines.specs.Lines.{lead}
+use Rattle.frame.specs.Gather.{gathered}
+use Rattle.frame.specs.Frame.{AtField, AtStart, FieldOf, inFields, drawn, ticksSeen, pixelsSeen, rowAddress, addressAt, placeAt, dotFor, fieldDots, sumsTo, fieldRefuses20, pictureRefuses20, fieldEnd, Whole}
+use Rattle.frame.specs.Demand.{answer, isShown, isTransfer, addressesAnswered, placesShown, firstAddress, transfersSeen, addressesOf, fieldPlace, placesOf, fieldDot, Ready, Demand3}
+use Rattle.base.proofs.Some.{some-none}
+use Rattle.screen.proofs.limits.Laws.{accepted-in}
 use Rattle.generator.proofs.Rows.{top-used-in, row-number-on}
 use Rattle.frame.proofs.Place.{ticks-some, rows-some, start-number}
 use Rattle.frame.proofs.Rows.{by-four}
-use Rattle.frame.proofs.Whole.{frame-end-start, row-lit, unrefused as unrefused-tick, before-tick, by-ticks, whole}
+use Rattle.frame.proofs.Whole.{Before, field-is, frame-end-start, row-lit, unrefused as unrefused-tick, before-tick, by-ticks, between-start, between-sound, whole}
+use Rattle.frame.proofs.Gather.{after-add, count-on, ticks-one, ticks-two, in-fields-one, in-fields-two, by-fields}
+use Rattle.generator.proofs.VisibleBefore.{plain-visible, fields-visible}
+use Rattle.base.proofs.Bools.{below}
 
 -- ---- rows, rounded up
 
@@ -68,10 +75,16 @@ run-more : (f : ℕ → ℕ) (n : ℕ) → run f 0 (n + 1) ≡ run f 0 n ++ (f n
 unfolding run
 run-more f n = run-append f 0 n 1 ∙ rw zero-add
 
--- ---- the frame's places, in closed form
+-- ---- a field's places, in closed form
 
--- where no address of the frame rolls over
-module _ (r : Registers) (ok : Accepted (r .control) (screen r)) (unrolled : topUsed r + (frameTransfers (screen r) - 1) * increment (r .control) ≤ 0xFFFFFF) where
+-- the address of row j, before it is rolled over
+address-of : (r : Registers) (f : Bool) (j : ℕ) → rowAddress r f j ≡ (firstAddress r f + j * increment (r .control)) % 2 ^ 24
+unfolding rowAddress topUsed
+address-of r true j = mod-add-mod (r .top + offset (r .control)) (2 ^ 24) (j * increment (r .control))
+address-of r false j = rw add-zero
+
+-- where no address of the field rolls over
+module _ (r : Registers) (f : Bool) (ok : Accepted (r .control) (screen r)) (unrolled : (j : ℕ) → j < transfersSeen r f → firstAddress r f + j * increment (r .control) ≤ 0xFFFFFF) where
   abbrev R : ℕ
   R = rowLength (screen r)
 
@@ -80,97 +93,106 @@ module _ (r : Registers) (ok : Accepted (r .control) (screen r)) (unrolled : top
 
   -- its visible ticks
   abbrev N : ℕ
-  N = frameVisible (screen r)
+  N = ticksSeen r f
 
-  row-unrolled : (j : ℕ) → j < frameTransfers (screen r) → rowAddress r j ≡ topUsed r + j * I
-  unfolding rowAddress
-  row-unrolled j l =
-      let most : j ≤ frameTransfers (screen r) - 1 = omega arith in
-      mod-eq-of-lt (omega (arith, mul-le-mul-right I most, unrolled))
+  row-unrolled : (j : ℕ) → j < transfersSeen r f → rowAddress r f j ≡ firstAddress r f + j * I
+  row-unrolled j l = address-of r f j ∙ mod-eq-of-lt (omega (arith, unrolled j l))
 
-  place-plain : (j v k : ℕ) → place r (topUsed r + j * I) v k ≡ firstPlace r + (4 * (j * R + v % R) + k)
-  unfolding place
-  place-plain j v k = rw (row-number-on r (topUsed r) j) (omega arith)
+  -- the places of a tick's four pixels
+  place-on : (v k : ℕ) → v < N → k < 4 → place r (addressAt r f v) v k ≡ fieldPlace r f (4 * v + k)
+  unfolding place fieldPlace
+  place-on v k l p =
+      let row = rows-some (r .control) (screen r) ok in
+      rw (row-unrolled (v / R) (row-below v N R row l), row-number-on r (firstAddress r f) (v / R), line-of R v k row p, column-of R v k row p) (omega arith)
 
-  -- the places run on from the first, across rows and lines
-  place-on : (v k : ℕ) → v < N → place r (addressAt r v) v k ≡ firstPlace r + (4 * v + k)
-  place-on v k l =
-      rw (row-unrolled (v / R) (row-below v N R (rows-some (r .control) (screen r) ok) l))
-      (place-plain (v / R) v k ∙ ap (λ (n : ℕ). firstPlace r + (4 * n + k)) (div-add-mod' v R))
-
-  place-at : (i : ℕ) → i < 4 * N → placeAt r i ≡ firstPlace r + i
+  place-at : (i : ℕ) → i < 4 * N → placeAt r f i ≡ fieldPlace r f i
   unfolding placeAt
   place-at i l =
       let e : 4 * (i / 4) + i % 4 ≡ i = omega arith in
-      place-on (i / 4) (i % 4) (omega arith) ∙ rw e
+      place-on (i / 4) (i % 4) (omega arith) (omega arith) ∙ rw e
 
-  module _ (m : List ℕ) (on : transferring (r .control) ≡ true) (unblanked : forcedBlank (r .control) ≡ false) where
-    abbrev bits : ℕ
-    bits = pixelBits (r .control)
+  -- memory for each place is memory enough
+  unrefused-field : (m : List ℕ) → ((i : ℕ) → i < pixelsSeen r f → (fieldPlace r f i + 1) * pixelBits (r .control) ≤ 8 * length m) → fieldRefuses20 r m f ≡ false
+  unfolding fieldRefuses20
+  unrefused-field m room =
+      rw (some-none (λ i. endsBeyond (pixelBits (r .control)) m (placeAt r f i)) (4 * N) (λ i l. rw (place-at i l) (le-ltb (8 * length m) ((fieldPlace r f i + 1) * pixelBits (r .control)) (room i l))))
+      (none (not (forcedBlank (r .control))) (transferring (r .control)))
+    where
+      none : (a b : Bool) → (a && (b && false)) ≡ false
+      none true true = refl
+      none true false = refl
+      none false b = refl
 
-    beyond : (i : ℕ) → i < 4 * N → endsBeyond bits m (placeAt r i) ≡ ltb (8 * length m) ((firstPlace r + i + 1) * bits)
-    beyond i l = rw (place-at i l)
+  -- the colour of each pixel
+  dot-on : (m : List ℕ) (v k : ℕ) → v < N → k < 4 → dotOf r f m (addressAt r f v) v k ≡ fieldDot r f m (4 * v + k)
+  unfolding dotOf fieldDot
+  dot-on m v k p q =
+      let D = screen r .display .0 in
+      let some = ok .bounded .display .low in
+      let e : 4 * v + k + 4 * lead (inField f (screen r)) ≡ 4 * (v + lead (inField f (screen r))) + k = omega arith in
+      rw (place-on v k p q, e, column-of D (v + lead (inField f (screen r))) k some q, line-of D (v + lead (inField f (screen r))) k some q)
 
-    -- THE MEMORY IS ENOUGH exactly where the frame's last place is inside it
-    pub room-exact : pictureRefuses20 r m ≡ ltb (8 * length m) ((firstPlace r + framePixels (screen r)) * bits)
-    unfolding pictureRefuses20
-    room-exact = simp (on, unblanked) (go (ltb (8 * length m) ((firstPlace r + 4 * N) * bits)) refl)
-      where
-        go : (x : Bool) → ltb (8 * length m) ((firstPlace r + 4 * N) * bits) ≡ x → some (λ i. endsBeyond bits m (placeAt r i)) (4 * N) ≡ x
-        go true e =
-            let n = frame-some (r .control) (screen r) ok in
-            let last : firstPlace r + (4 * N - 1) + 1 ≡ firstPlace r + 4 * N = omega arith in
-            some-at (λ i. endsBeyond bits m (placeAt r i)) (4 * N) (4 * N - 1) (omega arith) (beyond (4 * N - 1) (omega arith) ∙ rw last e)
-        go false e =
-            some-none (λ i. endsBeyond bits m (placeAt r i)) (4 * N)
-            (λ i l.
-            let most : firstPlace r + i + 1 ≤ firstPlace r + 4 * N = omega arith in
-            beyond i l ∙ le-ltb (8 * length m) ((firstPlace r + i + 1) * bits) (omega (arith, mul-le-mul-right bits most, ltb-false (8 * length m) ((firstPlace r + 4 * N) * bits) e)))
+  dot-is : (m : List ℕ) → forcedBlank (r .control) ≡ false → (i : ℕ) → i < 4 * N → dotFor r f m i ≡ fieldDot r f m i
+  unfolding dotFor
+  dot-is m unblanked i l =
+      let e : 4 * (i / 4) + i % 4 ≡ i = omega arith in
+      simp unblanked (dot-on m (i / 4) (i % 4) (omega arith) (omega arith) ∙ rw e)
 
-module _ (r : Registers) (m : List ℕ) (g : Generator) (d : Ready r m g) where
+-- a field about to start, of a frame that is ready
+pub record FieldReady (r : Registers) (m : List ℕ) (f : Bool) (g : Generator) : Type 0 where
+  pub sound : Sound r g
+  pub runs : running (r .control) ≡ true
+  pub start : AtField f g
+  pub transfers : transferring (r .control) ≡ true
+  pub unblanked : forcedBlank (r .control) ≡ false
+  pub room : (i : ℕ) → i < pixelsSeen r f → (fieldPlace r f i + 1) * pixelBits (r .control) ≤ 8 * length m
+  pub unrolled : (j : ℕ) → j < transfersSeen r f → firstAddress r f + j * increment (r .control) ≤ 0xFFFFFF
+
+module _ (r : Registers) (m : List ℕ) (f : Bool) (g : Generator) (d : FieldReady r m f g) where
   abbrev S : Screen
   S = screen r
 
-  -- its ticks
+  -- its ticks, and the visible ones
   abbrev F : ℕ
-  F = frameTicks (screen r)
+  F = fieldTicks (screen r)
+
+  abbrev M : ℕ
+  M = ticksSeen r f
 
   ok : Accepted (r .control) S
   ok = d .sound .accepted (d .runs)
 
-  top-in : topUsed r ≤ 0xFFFFFF
-  top-in = top-used-in r (d .sound .widths)
+  top-in : topUsed r f ≤ 0xFFFFFF
+  top-in = top-used-in r (d .sound .widths) f
 
   some-row : 0 < rowLength S
   some-row = rows-some (r .control) S ok
 
-  unrefused-picture : pictureRefuses20 r m ≡ false
-  unrefused-picture = room-exact r ok (d .unrolled) m (d .transfers) (d .unblanked) ∙ le-ltb (8 * length m) ((firstPlace r + framePixels S) * pixelBits (r .control)) (d .room)
+  pub unrefused-here : fieldRefuses20 r m f ≡ false
+  unrefused-here = unrefused-field r f ok (d .unrolled) m (d .room)
 
-  frame : Whole r m g
-  frame = whole r m g (d .sound) (d .runs) (d .start)
+  before-here : (n : ℕ) → n < F → Before r m f (g .asked) n (after r m g n)
+  before-here n l = before-tick r m f (g .asked) (d .runs) ok top-in g (d .sound .placed (d .runs)) (d .start) refl unrefused-here n l
 
-  -- ---- one tick of the frame
+  -- ---- one tick of the field
 
   abbrev G : ℕ → Generator
   G n = after r m g n
 
   module _ (n : ℕ) (l : n < F) where
-    unrefused-here : refuses20 r m (G n) ≡ false
-    unrefused-here = unrefused-tick r m (d .runs) ok top-in g (d .sound .placed (d .runs)) (d .start) unrefused-picture n l
+    unrefused-now : refuses20 r m (G n) ≡ false
+    unrefused-now = unrefused-tick r m f (g .asked) (d .runs) ok top-in g (d .sound .placed (d .runs)) (d .start) refl unrefused-here n l
 
-    held-here : visibleAt r (G n) ≡ true → heldAddress r (G n) ≡ addressAt r (G n .seen .0)
-    held-here =
-        row-lit r m (d .runs) ok top-in n (G n)
-        (before-tick r m (d .runs) ok top-in g (d .sound .placed (d .runs)) (d .start) unrefused-picture n l)
+    held-here : visibleAt r (G n) ≡ true → heldAddress r (G n) ≡ addressAt r f (G n .seen .0)
+    held-here = row-lit r m f (g .asked) (d .runs) ok top-in n (G n) (before-here n l)
 
-    answered : answer r m g n .refusal ≡ 0
+    pub answered : answer r m g n .refusal ≡ 0
     unfolding tickOf tickRefusal
-    answered = simp (d .runs, unrefused-here)
+    answered = simp (d .runs, unrefused-now)
 
     says : answer r m g n .signals ≡ signals r m (G n)
     unfolding tickOf tickRefusal
-    says = simp (d .runs, unrefused-here)
+    says = simp (d .runs, unrefused-now)
 
     pub shown-visible : isShown r m g n ≡ visibleAt r (G n)
     unfolding signalsWith shows
@@ -184,14 +206,14 @@ module _ (r : Registers) (m : List ℕ) (g : Generator) (d : Ready r m g) where
     unfolding signalsWith transferAt
     transferred = ap (λ (q : Signals). q .transfer) says ∙ simp (d .transfers)
 
-    address-is : visibleAt r (G n) ≡ true → eqb (G n .seen .0 % rowLength S) 0 ≡ true → answer r m g n .signals .address ≡ addressAt r (G n .seen .0)
+    address-is : visibleAt r (G n) ≡ true → eqb (G n .seen .0 % rowLength S) 0 ≡ true → answer r m g n .signals .address ≡ addressAt r f (G n .seen .0)
     unfolding signalsWith transferAt
     address-is v e = ap (λ (q : Signals). q .address) says ∙ simp (d .transfers, v, e) (held-here v)
 
   -- ---- the counts and the lists, tick by tick
 
-  by-frame : (P : ℕ → ℕ → Type 0) → P 0 0 → ((n : ℕ) → n < F → P n (G n .seen .0) → P (suc n) (seenAfter r (G n))) → P F (frameVisible S)
-  by-frame P base on = by-ticks r m (d .runs) ok top-in g (d .sound .placed (d .runs)) (d .start) unrefused-picture P base on
+  by-field : (P : ℕ → ℕ → Type 0) → P 0 0 → ((n : ℕ) → n < F → P n (G n .seen .0) → P (suc n) (seenAfter r (G n))) → P F M
+  by-field P base on = by-ticks r m f (g .asked) (d .runs) ok top-in g (d .sound .placed (d .runs)) (d .start) refl unrefused-here P base on
 
   Seen : ℕ → ℕ → Type 0
   Seen n v = count (isShown r m g) n ≡ v
@@ -204,116 +226,223 @@ module _ (r : Registers) (m : List ℕ) (g : Generator) (d : Ready r m g) where
   unfolding Seen count seenAfter
   seen-on n l e = rw (shown-visible n l, e)
 
-  visible-ticks : count (isShown r m g) F ≡ frameVisible S
+  pub visible-ticks : count (isShown r m g) F ≡ M
   unfolding Seen
-  visible-ticks = by-frame Seen seen-first seen-on
+  visible-ticks = by-field Seen seen-first seen-on
 
   Addressed : ℕ → ℕ → Type 0
-  Addressed n v = addressesAnswered r m g n ≡ run (rowAddress r) 0 (roundedUp v (rowLength S))
+  Addressed n v = addressesAnswered r m g n ≡ run (rowAddress r f) 0 (roundedUp v (rowLength S))
 
   addressed-first : Addressed 0 0
-  unfolding Addressed addressesAnswered run
+  unfolding Addressed gathered run
   addressed-first =
       let none : roundedUp 0 (rowLength S) ≡ 0 = div-eq-of-lt-le (rowLength S) (omega arith) (omega (arith, some-row)) in
       rw none
 
   addressed-on : (n : ℕ) → n < F → Addressed n (G n .seen .0) → Addressed (suc n) (seenAfter r (G n))
-  unfolding Addressed addressesAnswered seenAfter
+  unfolding Addressed gathered seenAfter
   addressed-on n l ih = rw (transferred n l, ih) (go (visibleAt r (G n)) refl (eqb (v % rowLength S) 0) refl)
     where
       v : ℕ
       v = G n .seen .0
 
       go : (x : Bool) → visibleAt r (G n) ≡ x → (y : Bool) → eqb (v % rowLength S) 0 ≡ y →
-          cond (x && y) (run (rowAddress r) 0 (roundedUp v (rowLength S)) ++ (answer r m g n .signals .address ∷ [])) (run (rowAddress r) 0 (roundedUp v (rowLength S)))
-          ≡ run (rowAddress r) 0 (roundedUp (cond x (v + 1) v) (rowLength S))
+          cond (x && y) (run (rowAddress r f) 0 (roundedUp v (rowLength S)) ++ (answer r m g n .signals .address ∷ [])) (run (rowAddress r f) 0 (roundedUp v (rowLength S)))
+          ≡ run (rowAddress r f) 0 (roundedUp (cond x (v + 1) v) (rowLength S))
       go false ex y ey = refl
       go true ex false ey = rw (up-in v (rowLength S) some-row (eqb-false (v % rowLength S) 0 ey))
       go true ex true ey =
           let u = up-at v (rowLength S) some-row (eqb-true (v % rowLength S) 0 ey) in
           rw (address-is n l ex ey, u .0, u .1, run-more)
 
-  addressed : addressesAnswered r m g F ≡ run (rowAddress r) 0 (frameTransfers S)
+  addressed : addressesAnswered r m g F ≡ run (rowAddress r f) 0 (transfersSeen r f)
   unfolding Addressed
-  addressed = by-frame Addressed addressed-first addressed-on
-
-  -- as many as the ticks that answer one
-  counted : (n : ℕ) → count (isTransfer r m g) n ≡ length (addressesAnswered r m g n)
-  unfolding count addressesAnswered
-  counted zero = refl
-  counted (suc n) = rw (counted n) (go (isTransfer r m g n) (addressesAnswered r m g n) (answer r m g n .signals .address))
-    where
-      go : (x : Bool) (l : List ℕ) (a : ℕ) → cond x (length l + 1) (length l) ≡ length (cond x (l ++ (a ∷ [])) l)
-      go true l a = rw length-append
-      go false l a = refl
+  addressed = by-field Addressed addressed-first addressed-on
 
   Placed : ℕ → ℕ → Type 0
-  Placed n v = placesShown r m g n ≡ run (placeAt r) 0 (4 * v)
+  Placed n v = placesShown r m g n ≡ run (placeAt r f) 0 (4 * v)
 
   placed-first : Placed 0 0
-  unfolding Placed placesShown run
+  unfolding Placed gathered run
   placed-first = refl
 
-  four-places : (v : ℕ) → run (place r (addressAt r v) v) 0 4 ≡ run (placeAt r) (4 * v) 4
+  four-places : (v : ℕ) → run (place r (addressAt r f v) v) 0 4 ≡ run (placeAt r f) (4 * v) 4
   unfolding placeAt
-  four-places v = run-same (place r (addressAt r v) v) (placeAt r) 0 (4 * v) 4 (λ k l. let q = by-four v k l in simp (q .0, q .1, zero-add))
+  four-places v = run-same (place r (addressAt r f v) v) (placeAt r f) 0 (4 * v) 4 (λ k l. let q = by-four v k l in simp (q .0, q .1, zero-add))
 
   placed-on : (n : ℕ) → n < F → Placed n (G n .seen .0) → Placed (suc n) (seenAfter r (G n))
-  unfolding Placed placesShown seenAfter
+  unfolding Placed gathered seenAfter
   placed-on n l ih = rw (shown-visible n l, ih) (go (visibleAt r (G n)) refl)
     where
       v : ℕ
       v = G n .seen .0
 
       go : (x : Bool) → visibleAt r (G n) ≡ x →
-          cond x (run (placeAt r) 0 (4 * v) ++ run (place r (heldAddress r (G n)) v) 0 4) (run (placeAt r) 0 (4 * v))
-          ≡ run (placeAt r) 0 (4 * cond x (v + 1) v)
+          cond x (run (placeAt r f) 0 (4 * v) ++ run (place r (heldAddress r (G n)) v) 0 4) (run (placeAt r f) 0 (4 * v))
+          ≡ run (placeAt r f) 0 (4 * cond x (v + 1) v)
       go true ex =
           let k : 4 * (v + 1) ≡ 4 * v + 4 = omega arith in
           rw (k, run-append, zero-add, held-here n l ex, four-places v)
       go false ex = refl
 
-  placed : placesShown r m g F ≡ run (placeAt r) 0 (4 * frameVisible S)
+  placed : placesShown r m g F ≡ run (placeAt r f) 0 (4 * M)
   unfolding Placed
-  placed = by-frame Placed placed-first placed-on
+  placed = by-field Placed placed-first placed-on
 
-  -- ---- each pixel
+  -- the lists of the field, in closed form
+  pub field-addresses : addressesAnswered r m g F ≡ addressesOf r f
+  field-addresses = addressed ∙ run-same (rowAddress r f) _ 0 0 (transfersSeen r f) (λ j l. row-unrolled r f ok (d .unrolled) (0 + j) (rw zero-add l))
 
-  dot-on : (v k : ℕ) → v < frameVisible S → k < 4 → dotOf r m (addressAt r v) v k ≡ dotAt r (positionUsed r) m (firstPlace r + (4 * v + k)) ((4 * v + k) % (4 * S .display .0)) ((4 * v + k) / (4 * S .display .0))
-  unfolding dotOf
-  dot-on v k p q = rw (place-on r ok (d .unrolled) v k p, column-of (S .display .0) v k (ok .bounded .display .low) q, line-of (S .display .0) v k (ok .bounded .display .low) q)
+  pub field-places : placesShown r m g F ≡ placesOf r f
+  field-places = placed ∙ run-same (placeAt r f) (fieldPlace r f) 0 0 (4 * M) (λ i l. place-at r f ok (d .unrolled) (0 + i) (rw zero-add l))
 
-  dot-is : (i : ℕ) → i < 4 * frameVisible S → dotFor r m i ≡ dotAt r (positionUsed r) m (firstPlace r + i) (i % (4 * S .display .0)) (i / (4 * S .display .0))
-  unfolding dotFor
-  dot-is i l =
-      let e : 4 * (i / 4) + i % 4 ≡ i = omega arith in
-      simp (d .unblanked) (dot-on (i / 4) (i % 4) (omega arith) (omega arith) ∙ rw e)
+  pub field-drawn : drawn r m g F ≡ run (fieldDot r f m) 0 (pixelsSeen r f)
+  field-drawn =
+      field-is r m f (g .asked) (d .runs) ok top-in g (d .sound .placed (d .runs)) (d .start) refl .colours unrefused-here
+      ∙ run-same (dotFor r f m) (fieldDot r f m) 0 0 (4 * M) (λ i l. dot-is r f ok (d .unrolled) m (d .unblanked) (0 + i) (rw zero-add l))
 
-  -- ---- the end of the frame
+  -- and the sums that it leaves are those of what it drew
+  pub field-sums : after r m g F .sums ≡ summed none (drawn r m g F)
+  unfolding fieldEnd sumsTo
+  field-sums =
+      let w = field-is r m f (g .asked) (d .runs) ok top-in g (d .sound .placed (d .runs)) (d .start) refl in
+      ap (λ (x : Generator). x .sums) (w .end unrefused-here) ∙ simp (d .unblanked) (ap (summed none) (sym (w .colours unrefused-here)))
 
-  frame-ends : G F ≡ frameEnd r m
-  frame-ends = frame .end unrefused-picture
+  -- it stands at its start before its first tick alone, and in its field before each
+  pub field-only : {x : Bool} (k : ℕ) → k < F → AtField x (G k) → (k ≡ 0) × (x ≡ f)
+  field-only k l b = let i = before-here k l in (start-number (r .control) (fieldAt r (G k)) (accepted-in S (G k .second) ok) k (G k) (i .at) b, sym (b .field) ∙ i .field)
 
-  only : (k : ℕ) → 0 < k → k < F → AtStart (G k) → ⊥
-  only k p l b =
-      let i = before-tick r m (d .runs) ok top-in g (d .sound .placed (d .runs)) (d .start) unrefused-picture k l in
-      omega (arith, start-number (r .control) S ok k (G k) (i .at) b)
+-- as many addresses are answered as ticks answer one
+pub counted : (r : Registers) (m : List ℕ) (g : Generator) (n : ℕ) → count (isTransfer r m g) n ≡ length (addressesAnswered r m g n)
+unfolding count gathered
+counted r m g zero = refl
+counted r m g (suc n) = rw (counted r m g n) (go (isTransfer r m g n) (addressesAnswered r m g n) (answer r m g n .signals .address))
+  where
+    go : (x : Bool) (l : List ℕ) (a : ℕ) → cond x (length l + 1) (length l) ≡ length (cond x (l ++ (a ∷ [])) l)
+    go true l a = rw length-append
+    go false l a = refl
 
-  frame-addresses : addressesAnswered r m g F ≡ run (λ j. topUsed r + j * increment (r .control)) 0 (frameTransfers S)
-  frame-addresses = addressed ∙ run-same (rowAddress r) (λ j. topUsed r + j * increment (r .control)) 0 0 (frameTransfers S) (λ j l. row-unrolled r ok (d .unrolled) (0 + j) (rw zero-add l))
+-- ---- the frame, of one field or two
+
+-- as many pixels as its fields have, whatever is said of each
+pub frame-pixels : {A : Type 0} (r : Registers) → Accepted (r .control) (screen r) → (each : Bool → ℕ → A) → length (inFields r (λ f. run (each f) 0 (pixelsSeen r f))) ≡ framePixels (screen r)
+frame-pixels {A = A} r ok each = go (screen r .interlaced) refl
+  where
+    part : Bool → List A
+    part f = run (each f) 0 (pixelsSeen r f)
+
+    go : (x : Bool) → screen r .interlaced ≡ x → length (inFields r part) ≡ framePixels (screen r)
+    go false n = rw (in-fields-one r part n, run-length (each false) 0 (pixelsSeen r false)) (ap (λ (k : ℕ). 4 * k) (plain-visible (r .control) (inField false (screen r)) (accepted-in (screen r) false ok) n))
+    go true n = rw (in-fields-two r part n, length-append, run-length (each false) 0 (pixelsSeen r false), run-length (each true) 0 (pixelsSeen r true)) (omega (arith, fields-visible (r .control) (screen r) ok n))
+
+pub frame-ticks-some : (r : Registers) → Accepted (r .control) (screen r) → 0 < frameTicks (screen r)
+frame-ticks-some r ok = go (screen r .interlaced) refl
+  where
+    go : (x : Bool) → screen r .interlaced ≡ x → 0 < frameTicks (screen r)
+    go false n = rw (ticks-one r n) (ticks-some (r .control) (screen r) ok)
+    go true n = rw (ticks-two r n) (omega (arith, ticks-some (r .control) (screen r) ok))
+
+module _ (r : Registers) (m : List ℕ) (g : Generator) (d : Ready r m g) where
+  okay : Accepted (r .control) (screen r)
+  okay = d .sound .accepted (d .runs)
+
+  abbrev T : ℕ
+  T = fieldTicks (screen r)
+
+  first-of : FieldOf r false
+  first-of e = absurd (true≢false (sym e))
+
+  pub ready-one : FieldReady r m false g
+  ready-one = record { sound = d .sound; runs = d .runs; start = d .start; transfers = d .transfers; unblanked = d .unblanked; room = λ i l. d .room false i first-of l; unrolled = λ j l. d .unrolled false j first-of l }
+
+  frame : Whole r m g
+  frame = whole r m g (d .sound) (d .runs) (d .start)
+
+  abbrev B : Generator
+  B = after r m g T
+
+  module _ (n : screen r .interlaced ≡ true) where
+    pub ready-two : FieldReady r m true B
+    ready-two =
+        record {
+          sound = between-sound r m g (d .sound) (d .runs) (d .start) (unrefused-here r m false g ready-one) n;
+          runs = d .runs;
+          start = between-start r m g (d .sound) (d .runs) (d .start) (unrefused-here r m false g ready-one) n;
+          transfers = d .transfers;
+          unblanked = d .unblanked;
+          room = λ i l. d .room true i (λ e. n) l;
+          unrolled = λ j l. d .unrolled true j (λ e. n) l;
+        }
+
+  -- a tick of the frame is one of the first field or, interlaced, of the second
+  by-field-ticks : (P : Generator → Type 0) → ((k : ℕ) → k < T → P (after r m g k)) → (screen r .interlaced ≡ true → (k : ℕ) → k < T → P (after r m B k)) → (k : ℕ) → k < frameTicks (screen r) → P (after r m g k)
+  by-field-ticks P one two k l = go (screen r .interlaced) refl
+    where
+      go : (x : Bool) → screen r .interlaced ≡ x → P (after r m g k)
+      go false n = one k (rw (ticks-one r n) at l)
+      go true n = ⊎-elim (one k) (λ q. let e : T + (k - T) ≡ k = omega arith in subst (λ (i : ℕ). P (after r m g i)) e (rw (after-add r m g T (k - T)) (two n (k - T) (omega (arith, ticks-two r n, l))))) (below k T)
+
+  answers : (k : ℕ) → k < frameTicks (screen r) → answer r m g k .refusal ≡ 0
+  answers = by-field-ticks (λ x. tickOf r m x .refusal ≡ 0) (answered r m false g ready-one) (λ n. answered r m true B (ready-two n))
+
+  -- the start comes back in neither field: in the second one it is not the first's
+  not-second : screen r .interlaced ≡ true → (k : ℕ) → k < T → AtStart (after r m B k) → ⊥
+  not-second n k l b = true≢false (sym (field-only r m true B (ready-two n) k l b .1))
+
+  not-early : (k : ℕ) → 0 < k → k < frameTicks (screen r) → AtStart (after r m g k) → ⊥
+  not-early k p l = go (screen r .interlaced) refl
+    where
+      first : k < T → AtStart (after r m g k) → ⊥
+      first q b = omega (arith, field-only r m false g ready-one k q b .0)
+
+      go : (x : Bool) → screen r .interlaced ≡ x → AtStart (after r m g k) → ⊥
+      go false n = first (rw (ticks-one r n) at l)
+      go true n = ⊎-elim first (λ q b. let e : T + (k - T) ≡ k = omega arith in not-second n (k - T) (omega (arith, ticks-two r n, l)) (rw (after-add r m g T (k - T)) at (subst (λ (i : ℕ). AtStart (after r m g i)) (sym e) b))) (below k T)
+
+  -- a tick shows exactly if it is visible
+  pub shown-all : (k : ℕ) → k < frameTicks (screen r) → isShown r m g k ≡ visibleAt r (after r m g k)
+  shown-all = by-field-ticks (λ x. not (tickOf r m x .signals .blank) ≡ visibleAt r x) (shown-visible r m false g ready-one) (λ n. shown-visible r m true B (ready-two n))
+
+  unrefused-picture : pictureRefuses20 r m ≡ false
+  unrefused-picture = rw (unrefused-here r m false g ready-one) (go (screen r .interlaced) refl)
+    where
+      go : (x : Bool) → screen r .interlaced ≡ x → (x && fieldRefuses20 r m true) ≡ false
+      go false n = refl
+      go true n = unrefused-here r m true B (ready-two n)
+
+  visible-all : count (isShown r m g) (frameTicks (screen r)) ≡ frameVisible (screen r)
+  visible-all = go (screen r .interlaced) refl
+    where
+      go : (x : Bool) → screen r .interlaced ≡ x → count (isShown r m g) (frameTicks (screen r)) ≡ frameVisible (screen r)
+      go false n = rw (ticks-one r n) (visible-ticks r m false g ready-one ∙ plain-visible (r .control) (inField false (screen r)) (accepted-in (screen r) false okay) n)
+      go true n = rw (ticks-two r n) (count-on r m g T T (λ x. not (tickOf r m x .signals .blank)) ∙ rw (visible-ticks r m false g ready-one, visible-ticks r m true B (ready-two n)) (fields-visible (r .control) (screen r) okay n))
+
+  addresses-all : addressesAnswered r m g (frameTicks (screen r)) ≡ inFields r (addressesOf r)
+  addresses-all = by-fields r m g (λ x. tickOf r m x .signals .transfer) (λ x. tickOf r m x .signals .address ∷ []) (addressesOf r) (field-addresses r m false g ready-one) (λ n. field-addresses r m true B (ready-two n))
+
+  addresses-many : length (inFields r (addressesOf r)) ≡ frameTransfers (screen r)
+  addresses-many = rw (length-append, run-length (λ j. firstAddress r false + j * increment (r .control)) 0 (transfersSeen r false)) (go (screen r .interlaced))
+    where
+      go : (x : Bool) → transfersSeen r false + length (cond x (addressesOf r true) []) ≡ transfersSeen r false + cond x (transfersSeen r true) 0
+      go true = rw (run-length (λ j. firstAddress r true + j * increment (r .control)) 0 (transfersSeen r true))
+      go false = refl
 
   -- DEMAND 3
   pub demand-3 : Demand3 r m g
   demand-3 =
       record {
-        unrefused = answered;
-        some = ticks-some (r .control) S ok;
-        returns = rw frame-ends (frame-end-start r m);
-        not-before = only;
-        visible = visible-ticks;
-        transfers = counted F ∙ ap length frame-addresses ∙ run-length (λ j. topUsed r + j * increment (r .control)) 0 (frameTransfers S);
-        addresses = frame-addresses;
-        places = placed ∙ run-same (placeAt r) (λ i. firstPlace r + i) 0 0 (4 * frameVisible S) (λ i l. place-at r ok (d .unrolled) (0 + i) (rw zero-add l));
-        dots = frame .colours unrefused-picture ∙ run-same (dotFor r m) _ 0 0 (4 * frameVisible S) (λ i l. dot-is (0 + i) (rw zero-add l));
-        end = frame-ends;
+        unrefused = answers;
+        some = frame-ticks-some r okay;
+        returns = rw (frame .end unrefused-picture) (frame-end-start r m);
+        not-before = not-early;
+        visible = visible-all;
+        transfers = counted r m g (frameTicks (screen r)) ∙ ap length addresses-all ∙ addresses-many;
+        addresses = addresses-all;
+        places =
+            by-fields r m g (λ x. not (tickOf r m x .signals .blank)) (λ x. run (place r (heldAddress r x) (x .seen .0)) 0 4) (placesOf r)
+            (field-places r m false g ready-one) (λ n. field-places r m true B (ready-two n));
+        dots =
+            by-fields r m g (visibleAt r) (λ x. tickOf r m x .signals .dots) (λ f. run (fieldDot r f m) 0 (pixelsSeen r f))
+            (field-drawn r m false g ready-one) (λ n. field-drawn r m true B (ready-two n));
+        end = frame .end unrefused-picture;
       }

@@ -1,6 +1,8 @@
--- The bench screen (01, "The bench screen and its neighbours"), started at 8 bits with increment 256 and top 7. Assumes nothing.
+-- The bench screen (01, "The bench screen and its neighbours"), started at 8 bits with increment 256 and top 7, and the interlaced one beside it
+-- (02, Q-4) with increment 2. Assumes nothing.
 use Prim.Native.Nat.{ℕ}
-use Rattle.screen.specs.Bench.{benchParameters}
+use mathlib.Core.List.{List}
+use Rattle.screen.specs.Bench.{benchParameters, interlacedParameters}
 use Rattle.registers.specs.File.{zeros}
 use Rattle.registers.specs.declared.Registers.{Registers}
 
@@ -8,16 +10,26 @@ use Rattle.registers.specs.declared.Registers.{Registers}
 abbrev pub benchControl : ℕ
 benchControl = 0x301001
 
+-- and bit 1
+abbrev pub interlacedControl : ℕ
+interlacedControl = 0x301003
+
 -- all other registers as they begin
-unfoldable pub benchRegisters : Registers
-benchRegisters =
+unfoldable pub startedWith : List ℕ → ℕ → Registers
+startedWith params control =
     record {
-      params = benchParameters;
+      params = params;
       mask = zeros .mask;
-      control = benchControl;
+      control = control;
       top = 7;
       colours = zeros .colours;
       position = zeros .position;
       palette = zeros .palette;
       store = zeros .store;
     }
+
+abbrev pub benchRegisters : Registers
+benchRegisters = startedWith benchParameters benchControl
+
+abbrev pub interlacedRegisters : Registers
+interlacedRegisters = startedWith interlacedParameters interlacedControl

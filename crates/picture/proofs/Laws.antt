@@ -1,5 +1,5 @@
 -- What callers know of a picture: the one condition is kept, and a refusal leaves everything as it was. Assumes nothing.
-use Prim.Native.Nat.{ℕ, zero, suc}
+use Prim.Native.Nat.{ℕ}
 use mathlib.Core.Bool.{Bool, true, false, cond}
 use mathlib.Core.List.{List}
 use mathlib.Core.Path.{_≡_}
@@ -12,23 +12,17 @@ use Rattle.generator.specs.Rows.{screen}
 use Rattle.generator.specs.Tick.{after}
 use Rattle.generator.specs.Sound.{Sound}
 use Rattle.generator.specs.declared.Generator.{Generator}
-use Rattle.generator.proofs.Kept.{tick-sound}
+use Rattle.generator.proofs.Kept.{after-sound}
 use Rattle.picture.specs.Picture.{pictureRefusal, drawnOf, bufferOf}
 
 module _ (r : Registers) (m : List ℕ) (g : Generator) (sound : Sound r g) where
-  -- any number of ticks keep the one condition
-  pub after-sound : (n : ℕ) → Sound r (after r m g n)
-  unfolding after
-  after-sound zero = sound
-  after-sound (suc n) = tick-sound r m (after r m g n) (after-sound n)
-
-  -- and so does a picture
+  -- a picture keeps the one condition, as its ticks do
   pub drawn-sound : (size : ℕ) → Sound r (drawnOf r m g size .next)
   unfolding drawnOf
   drawn-sound size = go (eqb (pictureRefusal r m g size) 0)
     where
       go : (t : Bool) → Sound r (cond t (after r m g (frameTicks (screen r))) g)
-      go true = after-sound (frameTicks (screen r))
+      go true = after-sound r m g sound (frameTicks (screen r))
       go false = sound
 
 -- refused: the generator given, and the buffer as it was

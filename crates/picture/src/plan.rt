@@ -1,23 +1,25 @@
-// The rows of a frame (01, "Rows and pixels"): its numbers, its segments, refusal 20, the picture segment by segment, and what its last tick leaves.
+// The rows of a field (01, "Rows and pixels"; 02, Q-4): its numbers, its segments, refusal 20, and the picture segment by segment.
 ghost use mathlib.Core.Path.{_≡_};
-ghost use Prim.Native.Nat.{_*_, _^_, _<_};
+ghost use Prim.Native.Nat.{_+_, _*_, _^_, _≤_, _<_};
 ghost use lib.ListN.{length};
 ghost use Rattle.base.specs.Count.{run, some};
 ghost use Rattle.control.specs.Control.{pixelBits};
 ghost use Rattle.memory.specs.Memory.{endsBeyond};
 ghost use Rattle.pixel.specs.Sums.{none};
 ghost use Rattle.picture.specs.Span.{Painted, through};
-ghost use Rattle.picture.specs.Plan.{planOf, Drawable, Sized, addressIn, placeIn, dotIn, refusesIn, leftIn, Cut};
+ghost use Rattle.picture.specs.Plan.{planOf, Drawable, Sized, addressIn, placeIn, dotIn, refusesIn, Cut};
 use crate::span;
 use crate::stretch::Stretch;
 use pixel::Sums;
 use registers::Registers;
 
-// The numbers of a frame: ticks of a line's Display, displayed lines, visible ticks, R, the first address, the step to the next and
-// what an address is divided by for its row's number.
+// The numbers of a field, the first or the second: ticks of a line's Display, those of them before its VDisplay, visible ticks of the picture
+// before it, its own, R, the first address, the step to the next and what an address is divided by for its row's number.
 pub struct Plan {
+    pub second: bool,
     pub display: u64,
-    pub lines: u64,
+    pub lead: u64,
+    pub before: u64,
     pub visible: u64,
     pub meminit: u64,
     pub row: u64,
@@ -28,23 +30,27 @@ pub struct Plan {
     pub position: u32,
 }
 
-pub fn plan_of(r: Registers) -> Plan
+pub fn plan_of(r: Registers, second: bool) -> Plan
     requires { ⌜ Drawable r ⌝ }
-    ensures plan { λ p. ⌜ p ≡ planOf r ⌝ }
+    ensures plan { λ p. ⌜ p ≡ planOf r second ⌝ }
     ensures sized { λ p. ⌜ Sized p ⌝ }
 {
     let params = r.params;
-    let s = units::screen_of(params);
-    let display = s.display.0;
-    let lines = units::displayed_lines(s);
+    let interlaced = control::is_interlaced(r.control);
+    let s = units::screen_of(params, interlaced);
+    let first = lines::shown_in(params, interlaced, false);
+    let shown = lines::shown_in(params, interlaced, second);
     let increment = control::address_increment(r.control);
+    let power = control::divisor_power(r.control);
     let n = r.numbers();
-    let top = generator::top_used(n);
-    let power = generator::row_power(n);
+    let top = generator::top_used(n, second);
+    let before = base::choose(second, first.visible, 0);
     Plan {
-        display,
-        lines,
-        visible: display * lines,
+        second,
+        display: s.display.0,
+        lead: shown.lead,
+        before,
+        visible: shown.visible,
         meminit: s.meminit.0,
         row: s.meminit.0 + s.transferdelay.0,
         top: top as u64,
@@ -55,16 +61,10 @@ pub fn plan_of(r: Registers) -> Plan
     }
 }
 
-// What the last visible tick of a frame leaves: the address held and the request.
-pub struct Left {
-    pub held: u32,
-    pub asked: bool,
-}
-
 // The address held at visible tick v.
-fn address_at(p: Plan, v: u64) -> u64
+pub fn address_at(p: Plan, v: u64) -> u64
     requires { ⌜ Sized p ⌝ }
-    requires { ⌜ v < p .visible ⌝ }
+    requires { ⌜ v ≤ p .visible ⌝ }
     ensures address { λ a. ⌜ a ≡ addressIn p v ⌝ }
     ensures bound { λ a. ⌜ a < 2 ^ 24 ⌝ }
 {
@@ -82,27 +82,30 @@ fn first_place(p: Plan, v: u64) -> u64
     (address / p.divisor * p.row + v % p.row) * 4
 }
 
-// The segment from visible tick v on: the pixels up to the line's end or the row's.
+// The segment from visible tick v on: the pixels up to the line's end, the row's or the field's.
 fn segment_at(p: Plan, v: u64) -> Stretch
     requires { ⌜ Sized p ⌝ }
     requires { ⌜ v < p .visible ⌝ }
     ensures segment { λ s. ⌜ Cut p v s ⌝ }
 {
-    let column = v % p.display;
+    let along = v + p.lead;
+    let column = along % p.display;
     let line = p.display - column;
     let row = p.row - v % p.row;
-    let ticks = base::choose(line <= row, line, row);
+    let left = p.visible - v;
+    let near = base::choose(line <= row, line, row);
+    let ticks = base::choose(near <= left, near, left);
     let from = first_place(p, v);
     Stretch {
-        at: (12 * v) as usize,
+        at: (12 * (p.before + v)) as usize,
         from,
         x: (4 * column) as u32,
-        y: (v / p.display) as u32,
+        y: (along / p.display) as u32,
         count: 4 * ticks,
     }
 }
 
-// Some place of the picture ends beyond the memory: in each segment the last one does where any does.
+// Some place of the field ends beyond the memory: in each segment the last one does where any does.
 fn is_beyond(p: Plan, memory: &[u8]) -> bool
     requires { ⌜ Sized p ⌝ }
     ensures test { λ b. ⌜ b ≡ some (λ i. endsBeyond (pixelBits (p .control)) (now (memory .entry)) (placeIn p i)) (4 * p .visible) ⌝ }
@@ -118,7 +121,7 @@ fn is_beyond(p: Plan, memory: &[u8]) -> bool
     beyond
 }
 
-// Refusal 20 of the whole picture; with blanking forced or transfers off nothing is read.
+// Refusal 20 of the whole field; with blanking forced or transfers off nothing is read.
 pub fn refuses_20(p: Plan, memory: &[u8]) -> bool
     requires { ⌜ Sized p ⌝ }
     ensures refusal { λ b. ⌜ b ≡ refusesIn p (now (memory .entry)) ⌝ }
@@ -131,7 +134,7 @@ pub fn refuses_20(p: Plan, memory: &[u8]) -> bool
     false
 }
 
-// The picture, segment by segment, into a buffer of its size.
+// The field, segment by segment, into a buffer that holds it.
 pub fn draw_rows(
     buffer: &mut [u8],
     memory: &[u8],
@@ -141,9 +144,9 @@ pub fn draw_rows(
     colours: &[u32; 3],
 ) -> Sums
     requires { ⌜ Sized p ⌝ }
-    requires { ⌜ length (now buffer) ≡ 12 * p .visible ⌝ }
+    requires { ⌜ 12 * (p .before + p .visible) ≤ length (now buffer) ⌝ }
     ensures painted { λ s. ⌜
-        Painted (now (buffer .entry)) 0 none
+        Painted (now (buffer .entry)) (12 * p .before) none
         (run
         (dotIn p (through (p .control) (p .position) (now (table .entry)) (now (store .entry)) (now (colours .entry)) (now (memory .entry))))
         0 (4 * p .visible))
@@ -169,18 +172,4 @@ pub fn draw_rows(
         v += s.count / 4;
     }
     t
-}
-
-// What the frame leaves.
-pub fn left_by(p: Plan) -> Left
-    requires { ⌜ Sized p ⌝ }
-    ensures left { λ l. ⌜ l ≡ leftIn p ⌝ }
-{
-    let last = p.visible - 1;
-    let on = control::is_transferring(p.control);
-    let held = address_at(p, last);
-    Left {
-        held: held as u32,
-        asked: request::is_asking(on, p.meminit, last % p.row),
-    }
 }

@@ -64,6 +64,7 @@ pub extern "C" fn speed_draw(
         blue: 0,
     };
     let g = Generator {
+        second: false,
         half: HalfLines(0),
         at: ScreenUnits(0),
         seen: ScreenUnits(0),

@@ -4,32 +4,22 @@ use Rattle.picture.proofs.Closed.{drawable-free, fits-free, drawn-whole
 use Rattle.picture.proofs.draw.Statement.{statement}
 use Rattle.picture.proofs.draw.Tie as tie
 
-plan-of-requires : tie.Need-plan-of-requires
-plan-of-requires c κs =
-    let start = c .before .before .before .before in
-    let args = start .args in
-    drawable-free (args .r) (args .memory .now) (args .g) (args .buffer .now) _ (c .before .refusal-of .ensures) (start .pre) (c .if1 .taken)
-
 draw-frame-requires : tie.Need-draw-frame-requires
 draw-frame-requires c κs =
-    let go = c .before .before in
+    let go = c .before in
     let start = go .before .before .before .before in
     let args = start .args in (
       drawable-free (args .r) (args .memory .now) (args .g) (args .buffer .now) _ (go .before .refusal-of .ensures) (start .pre) (go .if1 .taken),
-      (
-        c .before .plan-of .ensures .0,
-        fits-free (args .r) (args .memory .now) (args .g) (args .buffer .now) _ (go .before .refusal-of .ensures) (start .pre) (go .if1 .taken),
-      ),
+      fits-free (args .r) (args .memory .now) (args .g) (args .buffer .now) _ (go .before .refusal-of .ensures) (start .pre) (go .if1 .taken),
     )
 
 returns : tie.Need-returns
 returns c =
-    let plan = c .before .before .before .before .before in
-    let go = plan .before in
+    let drawn = c .before .before in
+    let go = drawn .before .before in
     let start = go .before .before .before .before in
-    let drawn = c .before .before .before in
-    drawn-whole (start .args .r) (start .args .memory .now) (start .args .g) (start .args .buffer .now) _ (go .before .refusal-of .ensures) (start .pre) (go .if1 .taken) _ (plan .plan-of .ensures .0) _ _ _
-    (drawn .draw-frame .ensures .0) (drawn .draw-frame .ensures .1) (c .end-of .ensures)
+    drawn-whole (start .args .r) (start .args .memory .now) (start .args .g) (start .args .buffer .now) _ (go .before .refusal-of .ensures) (start .pre) (go .if1 .taken) _ _
+    (drawn .draw-frame .ensures .0) (drawn .draw-frame .ensures .1)
 
 returns-2 : tie.Need-returns-2
 returns-2 c =
@@ -41,9 +31,7 @@ draw-spec =
     tie.close
     (tie.spec
     (λ c κs. search needs)
-    plan-of-requires
     draw-frame-requires
-    (λ c κs. c .before .before .before .before .plan-of .ensures .1)
     (λ c. search needs)
     returns
     returns-2)

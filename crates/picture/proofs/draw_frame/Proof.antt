@@ -1,42 +1,37 @@
--- `picture::draw_frame` meets its contract: black bytes and no sums, or the segments through the masked palette. Assumes nothing.
-use mathlib.Core.Path.{sym, _∙_}
+-- `picture::draw_frame` meets its contract: the one field, or the second behind the first. Assumes nothing.
+use native.Mathlib.Omega.{arith}
 use borrow.Author.Needs.{needs}
-use Rattle.picture.proofs.Closed.{frame-black, frame-lit, size-link}
-use Rattle.picture.proofs.plan.Sizes.{sized}
+use Rattle.picture.proofs.Closed.{fits-first, fits-second, frame-one, frame-two}
 use Rattle.picture.proofs.draw_frame.Statement.{statement}
 use Rattle.picture.proofs.draw_frame.Tie as tie
 
-returns : tie.Need-returns
-returns c =
-    let blank = c .before .before .before .before .before .before in
-    let start = blank .before .before .before .before .before .before in
-    frame-black (start .args .r) (start .args .memory .now)
-    (sym (blank .is-forced-blank .ensures) ∙ c .before .before .before .before .before .if1 .taken) _ (start .args .buffer .now) _
-    (c .none .ensures) (start .pre .1 .1) (c .before .before .before .blacken .ensures)
-
-returns-2 : tie.Need-returns-2
-returns-2 c =
-    let table = c .before .before .before .before .before .before .before in
-    let lit = table .before .before in
-    let start = lit .before .before .before .before .before .before .before in
-    frame-lit (start .args .r) (start .args .memory .now) (sym (lit .before .is-forced-blank .ensures) ∙ lit .if1 .left)
-    _ (start .pre .1 .0) _ (table .masked-palette .ensures) (start .pre .1 .1) (c .before .before .draw-rows .ensures)
-
-draw-rows-requires : tie.Need-draw-rows-requires
-draw-rows-requires c κs =
-    let start = c .before .before .before .before .before .before .before .before .before .before .before .before .before in
-    (rw (start .pre .1 .0) (sized _ (start .pre .0)), start .pre .1 .1 ∙ sym (size-link (start .args .r) (start .args .memory .now) _ (start .pre .1 .0)))
+abbrev start : tie.After-is-interlaced → tie.Start
+start c = c .before .before .before
 
 pub draw-frame-spec : {M : Type 1} → statement M
 draw-frame-spec =
     tie.close
     (tie.spec
     (λ c κs. tt)
-    (λ c κs. tt)
-    (λ c κs. tt)
+    (λ c κs.
+    let s = start (c .before) in
+    (s .pre .0, fits-first (s .args .r) (s .args .memory .now) (s .pre .0) (s .args .buffer .now) (s .pre .1)))
+    (λ c κs.
+    let two = c .before in
+    let format = two .before .before .before .before .before in
+    let s = start format in
+    (s .pre .0, omega (arith, fits-second (s .args .r) (s .args .memory .now) (s .pre .0) (s .args .buffer .now) (s .pre .1) _ (format .is-interlaced .ensures) (two .if1 .taken))))
     (λ c. search needs)
-    returns
-    (λ c κs. tt)
-    draw-rows-requires
+    (λ c.
+    let drawn = c .before .before in
+    let two = drawn .before .before in
+    let one = two .before .before .before in
+    let format = one .before .before in
+    let s = start format in
+    frame-two (s .args .r) (s .args .memory .now) (s .pre .0) (s .args .buffer .now) (s .pre .1) _ (format .is-interlaced .ensures) _ _ _ (one .draw-field .ensures .0) (one .draw-field .ensures .1) (two .if1 .taken) _ _ (drawn .draw-field2 .ensures .0) (drawn .draw-field2 .ensures .1))
     (λ c. search needs)
-    returns-2)
+    (λ c.
+    let one = c .before .before .before in
+    let format = one .before .before in
+    let s = start format in
+    frame-one (s .args .r) (s .args .memory .now) (s .pre .0) (s .args .buffer .now) (s .pre .1) _ (format .is-interlaced .ensures) _ _ _ (one .draw-field .ensures .0) (one .draw-field .ensures .1) (c .if1 .left)))

@@ -1,12 +1,12 @@
--- The segments of a frame: what fits, where their places and colours stand, and that they join. Assumes nothing.
+-- The segments of a field: what fits, where their places and colours stand, and that they join. Assumes nothing.
 use Prim.Native.Nat.{ℕ, zero, suc, _+_, _-_, _*_, _/_, _%_, _^_, _≤_, _<_, min}
 use mathlib.Core.Bool.{Bool, true, false, not, cond, _&&_, _||_, true≢false, or-assoc, or-false}
 use mathlib.Core.List.{List}
 use mathlib.Core.Path.{_≡_, refl, sym, ap, _∙_}
-use native.Mathlib.Nat.{mul-le-mul, mul-le-mul-right, mul-pos, div-le-self, div-lt-iff-lt-mul, div-eq-of-lt-le, div-add-mod', mod-lt, zero-add, add-zero, add-suc, mul-comm}
+use native.Mathlib.Nat.{mul-le-mul, div-le-self, div-lt-iff-lt-mul, div-eq-of-lt-le, div-add-mod', mod-lt, zero-add, add-zero, add-suc}
 use native.Mathlib.Omega.{arith}
-use borrow.Author.Tests.{leb-true, leb-false}
-use lib.Dec.{leb}
+use borrow.Author.Tests.{lt-ltb, leb-true, leb-false}
+use lib.Dec.{ltb, leb}
 use mir.Val.{Fits}
 use mir.Syntax.{w64}
 use Rattle.base.specs.Count.{some, run}
@@ -38,16 +38,18 @@ least a b = go (leb a b) refl
     go true e = let h : a ≤ b = leb-true a b e in omega arith
     go false e = let h : b < a = leb-false a b e in omega arith
 
+-- the number of a field's last visible tick is one less than their number, and 0 where there is none
+pub last-by : (n k : ℕ) → k ≡ cond (ltb 0 n) n 1 → (1 ≤ k) × (k - 1 ≡ n - 1)
+last-by zero k e = (omega (arith, e), omega (arith, e))
+last-by (suc n) k e = let more : k ≡ suc n = e ∙ simp (lt-ltb 0 (suc n) (omega arith)) in (omega arith, omega arith)
+
 module _ (p : Plan) (ok : Sized p) where
-  pub visible-some : 0 < p .visible
-  visible-some = rw (ok .visible) (mul-pos (ok .display) (ok .lines))
+  pub visible-most : p .visible + p .lead ≤ 0x1000001 * 0xFFFFFF
+  visible-most = omega (arith, ok .lines-most, ok .display-most)
 
-  pub visible-most : p .visible ≤ 0xFFFFFF * 0xFFFFFF
-  visible-most = rw (ok .visible) (mul-le-mul (ok .display-most) (ok .lines-most))
-
-  module _ (v : ℕ) (q : v < p .visible) where
-    rows-most : (d : ℕ) → v / d * p .increment ≤ 0xFFFFFF * 0xFFFFFF * 1024
-    rows-most d = mul-le-mul {n₁ = v / d} {n₂ = 0xFFFFFF * 0xFFFFFF} (omega (arith, div-le-self v d, visible-most)) (ok .increment-most)
+  module _ (v : ℕ) (q : v ≤ p .visible) where
+    rows-most : (d : ℕ) → v / d * p .increment ≤ 0x1000001 * 0xFFFFFF * 1024
+    rows-most d = mul-le-mul {n₁ = v / d} {n₂ = 0x1000001 * 0xFFFFFF} (omega (arith, div-le-self v d, visible-most)) (ok .increment-most)
 
     pub fits-rows : (d : ℕ) → Fits w64 (v / d * p .increment)
     fits-rows d = omega (arith, rows-most d)
@@ -55,6 +57,7 @@ module _ (p : Plan) (ok : Sized p) where
     pub fits-address : (d : ℕ) → Fits w64 (p .top + v / d * p .increment)
     fits-address d = omega (arith, rows-most d, ok .top)
 
+  module _ (v : ℕ) where
     pub unit-most : (address : ℕ) → address < 2 ^ 24 → address / p .divisor * p .row + v % p .row < 2 ^ 58
     unit-most address h =
         omega (arith, mul-le-mul {n₁ = address / p .divisor} {n₂ = 0xFFFFFF} (omega (arith, div-le-self address (p .divisor))) (ok .row-most), mod-lt v (ok .row), ok .row-most)
@@ -66,40 +69,43 @@ module _ (p : Plan) (ok : Sized p) where
         let b : 4 * v % 4 ≡ 0 = omega arith in
         simp (a, b, add-zero, e)
 
-    in-line : v % p .display < p .display
-    in-line = mod-lt v (ok .display)
+    abbrev column : ℕ
+    column = (v + p .lead) % p .display
 
-    line-in : v / p .display < p .lines
-    line-in = div-lt-iff-lt-mul (ok .display) .1 (rw (ok .visible, mul-comm) at q)
+    pub in-line : column < p .display
+    in-line = mod-lt (v + p .lead) (ok .display)
 
-    pub line-small : v / p .display < 2 ^ 32
-    line-small = omega (arith, line-in, ok .lines-most)
-
-    pub column-small : 4 * (v % p .display) < 2 ^ 32
+    pub column-small : 4 * column < 2 ^ 32
     column-small = omega (arith, in-line, ok .display-most)
 
-    pub ticks-small : (ticks row : ℕ) → ticks ≡ cond (leb (p .display - v % p .display) row) (p .display - v % p .display) row → 4 * ticks < 2 ^ 32
-    ticks-small ticks row e = omega (arith, e ∙ least (p .display - v % p .display) row, ok .display-most)
+    pub line-small : v < p .visible → (v + p .lead) / p .display < 2 ^ 32
+    line-small q = omega (arith, div-lt-iff-lt-mul {x = v + p .lead} {y = 0x1000001} (ok .display) .1 (omega (arith, ok .lines-most)))
 
-    pub cut-by : (ticks from : ℕ) → ticks ≡ cond (leb (p .display - v % p .display) (p .row - v % p .row)) (p .display - v % p .display) (p .row - v % p .row) → from ≡ placeIn p (4 * v) → from < 2 ^ 60 →
-        Cut p v (record { at = 12 * v; from = from; x = 4 * (v % p .display); y = v / p .display; count = 4 * ticks })
-    cut-by ticks from c f b =
-        let e : ticks ≡ min (p .display - v % p .display) (p .row - v % p .row) = c ∙ least _ _ in
-        let whole = mul-le-mul-right {m = v / p .display + 1} {n = p .lines} (p .display) (omega (arith, line-in)) in
-        let in-row = mod-lt v (ok .row) in
-        record {
-          some = omega (arith, in-line);
-          count = omega arith;
-          at = refl;
-          column = refl;
-          line = refl;
-          from = f;
-          in-line = omega (arith, in-line);
-          in-row = omega arith;
-          in-frame = omega (arith, in-line, div-add-mod' v (p .display), ok .visible, mul-comm (p .display) (p .lines));
-          column-most = omega (arith, in-line, ok .display-most);
-          from-most = b;
-        }
+    -- up to the nearest of the three ends
+    module _ (q : v < p .visible) (near ticks : ℕ) (en : near ≡ cond (leb (p .display - column) (p .row - v % p .row)) (p .display - column) (p .row - v % p .row)) (et : ticks ≡ cond (leb near (p .visible - v)) near (p .visible - v)) where
+      nearest : ticks ≡ min (min (p .display - column) (p .row - v % p .row)) (p .visible - v)
+      nearest = et ∙ rw (en, least (p .display - column) (p .row - v % p .row)) (least _ _)
+
+      pub ticks-small : 4 * ticks < 2 ^ 32
+      ticks-small = omega (arith, nearest, ok .display-most)
+
+      pub cut-by : (from : ℕ) → from ≡ placeIn p (4 * v) → from < 2 ^ 60 → Cut p v (record { at = 12 * (p .before + v); from = from; x = 4 * column; y = (v + p .lead) / p .display; count = 4 * ticks })
+      cut-by from f b =
+          let e = nearest in
+          let in-row = mod-lt v (ok .row) in
+          record {
+            some = omega (arith, in-line);
+            count = omega arith;
+            at = refl;
+            column = refl;
+            line = refl;
+            from = f;
+            in-line = omega (arith, in-line);
+            in-row = omega arith;
+            in-field = omega arith;
+            column-most = omega (arith, in-line, ok .display-most);
+            from-most = b;
+          }
 
 some-append : (test : ℕ → Bool) (a n : ℕ) → some test (a + n) ≡ (some test a || some (λ k. test (a + k)) n)
 unfolding some
@@ -139,9 +145,9 @@ module _ (p : Plan) (v : ℕ) (s : Stretch) (c : Cut p v s) where
       sym (rw (all, more, some-append, some-last bits memory (λ k. placeIn p (4 * v + k)) (s .from) n (λ k l. place-on k (omega (arith, c .some))), ← last, ← e, ← f))
 
   -- a segment fits the picture's buffer
-  pub segment-small : (size : ℕ) → size ≡ 12 * p .visible → Small s size
+  pub segment-small : (size : ℕ) → 12 * (p .before + p .visible) ≤ size → Small s size
   segment-small size h =
-      record { bytes = omega (arith, c .at, c .count, c .in-frame); columns = omega (arith, c .column-most); places = omega (arith, c .from-most, c .column-most) }
+      record { bytes = omega (arith, c .at, c .count, c .in-field); columns = omega (arith, c .column-most); places = omega (arith, c .from-most, c .column-most) }
 
   -- one more segment painted
   module _ (through : Through) where
@@ -151,14 +157,14 @@ module _ (p : Plan) (v : ℕ) (s : Stretch) (c : Cut p v s) where
     dot-on : (j : ℕ) → j < s .count → dotIn p through (4 * v + j) ≡ dot (0 + j)
     unfolding dotIn coveredDot
     dot-on j l =
-        let t : (4 * v + j) / 4 ≡ v + j / 4 = omega arith in
-        let r : v % p .display + j / 4 < p .display = omega (arith, c .in-line, c .count) in
-        let x : 4 * ((4 * v + j) / 4 % p .display) + (4 * v + j) % 4 ≡ s .x + j = rw (t, mod-on (p .display) v (j / 4) r) (omega (arith, c .column)) in
-        let y : (4 * v + j) / 4 / p .display ≡ s .y = rw (t, div-on (p .display) v (j / 4) r) (sym (c .line)) in
+        let t : (4 * v + j) / 4 + p .lead ≡ v + p .lead + j / 4 = omega arith in
+        let r : (v + p .lead) % p .display + j / 4 < p .display = omega (arith, c .in-line, c .count) in
+        let x : 4 * (((4 * v + j) / 4 + p .lead) % p .display) + (4 * v + j) % 4 ≡ s .x + j = rw (t, mod-on (p .display) (v + p .lead) (j / 4) r) (omega (arith, c .column)) in
+        let y : ((4 * v + j) / 4 + p .lead) / p .display ≡ s .y = rw (t, div-on (p .display) (v + p .lead) (j / 4) r) (sym (c .line)) in
         rw (zero-add, x, y, place-on j l)
 
     pub painted-rows : {b : List ℕ} {t : Sums} {b′ : List ℕ} {t′ : Sums} {b″ : List ℕ} {t″ : Sums} →
-        Painted b 0 t (run (dotIn p through) 0 (4 * v)) b′ t′ → Covered through s b′ t′ b″ t″ → Painted b 0 t (run (dotIn p through) 0 (4 * (v + s .count / 4))) b″ t″
+        Painted b (12 * p .before) t (run (dotIn p through) 0 (4 * v)) b′ t′ → Covered through s b′ t′ b″ t″ → Painted b (12 * p .before) t (run (dotIn p through) 0 (4 * (v + s .count / 4))) b″ t″
     painted-rows d e =
         let f = dotIn p through in
         let same : run f (0 + 4 * v) (s .count) ≡ run dot 0 (s .count) = rw zero-add (run-same f dot (4 * v) 0 (s .count) dot-on) in

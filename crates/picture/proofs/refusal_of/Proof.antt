@@ -1,9 +1,7 @@
 -- `picture::refusal_of` meets its contract: 22, or the later two in their order. Assumes nothing.
 use mathlib.Core.Bool.{false, not, _||_}
 use mathlib.Core.Path.{_≡_, sym, _∙_}
-use native.Mathlib.Omega.{arith}
 use Rattle.picture.specs.Picture.{refuses22}
-use Rattle.picture.proofs.plan.Segments.{visible-most}
 use Rattle.picture.proofs.Closed.{drawable, refusal-22, refusal-later}
 use Rattle.picture.proofs.refusal_of.Statement.{statement}
 use Rattle.picture.proofs.refusal_of.Tie as tie
@@ -25,11 +23,12 @@ returns c =
 
 returns-2 : tie.Need-returns-2
 returns-2 c =
-    let p = c .before .before .before .before .before in
-    let asked = p .before .before in
+    let far = c .before .before in
+    let pixels = far .before .before in
+    let asked = pixels .before .before in
     let start = asked .before .before .before in
-    refusal-later (start .args .r) (start .args .memory .now) (start .args .g) (start .args .size) (start .pre) _ (early asked) (p .before .if1 .left) _ (p .plan-of .ensures .1) (p .plan-of .ensures .0)
-    _ (c .before .before .before .bytes-for .ensures) _ (c .before .before .refuses-20 .ensures) _ _ (c .before .first .ensures) (c .first2 .ensures)
+    refusal-later (start .args .r) (start .args .memory .now) (start .args .g) (start .args .size) (start .pre) _ (early asked) (pixels .before .if1 .left) _ _ (pixels .pixels-of .ensures)
+    (far .before .bytes-for .ensures) _ (far .refuses-20 .ensures) _ _ (c .before .first .ensures) (c .first2 .ensures)
 
 pub refusal-of-spec : {M : Type 1} → statement M
 refusal-of-spec =
@@ -39,9 +38,8 @@ refusal-of-spec =
     (λ c κs. tt)
     returns
     (λ c κs. let start = c .before .before .before .before in drawable (start .args .r) (start .args .g) (start .pre) (begins c))
-    (λ c. omega (arith, visible-most _ (c .before .plan-of .ensures .1)))
     (λ c κs. tt)
-    (λ c κs. c .before .before .plan-of .ensures .1)
+    (λ c κs. let go = c .before .before in let start = go .before .before .before .before in drawable (start .args .r) (start .args .g) (start .pre) (begins go))
     (λ c κs. tt)
     (λ c κs. tt)
     returns-2)

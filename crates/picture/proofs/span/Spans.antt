@@ -1,10 +1,10 @@
 -- Painting one stretch of dots after another is painting both. Assumes nothing.
-use Prim.Native.Nat.{ℕ, suc, _+_, _-_, _*_, _≤_, _<_}
+use Prim.Native.Nat.{ℕ, zero, suc, _+_, _-_, _*_, _≤_, _<_}
 use mathlib.Core.List.{List, [], _∷_, _++_, append-nil}
 use mathlib.Core.Path.{_≡_, refl, ap, _∙_}
 use native.Mathlib.Nat.{add-zero, zero-add, add-suc, suc-add}
 use native.Mathlib.Omega.{arith}
-use lib.ListN.{length, set}
+use lib.ListN.{length, set, replicate}
 use lib.Seq.{sets, sets-eq, length-sets, drop-length}
 use Rattle.base.specs.Count.{run}
 use Rattle.base.proofs.Run.{run-length, run-append, run-same}
@@ -70,12 +70,28 @@ painted-turn {b} {at} {s} {b′} {s′} {k} f a i l p e q =
     let j : a + (i - a) ≡ i = omega arith in
     rw n (painted-more {k = k} f a (i - a) p (omega arith) (rw j q))
 
--- a run painted from a buffer's first byte to its last is all that it holds
-pub painted-whole : {b : List ℕ} {s : Sums} {b′ : List ℕ} {s′ : Sums} (f : ℕ → Dot) (n : ℕ) → Painted b 0 s (run f 0 n) b′ s′ → length b ≡ 3 * n → b′ ≡ bytesOf (run f 0 n)
-painted-whole {b} f n p e =
-    let bytes = bytesOf (run f 0 n) in
-    let all : length bytes ≡ length b = omega (arith, bytes-length (run f 0 n), run-length f 0 n) in
-    p .stored ∙ sets-eq bytes b 0 (omega arith) ∙ simp (zero-add, all, drop-length) (append-nil bytes)
+-- dots stored from a buffer's first byte to its last are all that it holds
+pub stored-all : (b : List ℕ) (dots : List Dot) → length b ≡ 3 * length dots → sets b 0 (bytesOf dots) ≡ bytesOf dots
+stored-all b dots e =
+    let all : length (bytesOf dots) ≡ length b = omega (arith, bytes-length dots) in
+    sets-eq (bytesOf dots) b 0 (omega arith) ∙ simp (zero-add, all, drop-length) (append-nil (bytesOf dots))
+
+-- and so are some and then others right behind
+pub stored-both : (b : List ℕ) (xs ys : List Dot) (at : ℕ) → at ≡ 3 * length xs → length b ≡ 3 * length (xs ++ ys) → sets (sets b 0 (bytesOf xs)) at (bytesOf ys) ≡ bytesOf (xs ++ ys)
+stored-both b xs ys at e n =
+    let k : at ≡ 0 + length (bytesOf xs) = omega (arith, bytes-length xs) in
+    rw (k, ← sets-append, ← bytes-append) (stored-all b (xs ++ ys) n)
+
+-- one more byte blackened
+black-next : (b : List ℕ) (from n : ℕ) → set (sets b from (replicate n 0)) (from + n) 0 ≡ sets b from (replicate (suc n) 0)
+black-next b from zero = rw add-zero
+black-next b from (suc n) = rw (add-suc, ← suc-add) (black-next (set b from 0) (suc from) n)
+
+pub black-more : (b : List ℕ) (from k : ℕ) → from ≤ k → set (sets b from (replicate (k - from) 0)) k 0 ≡ sets b from (replicate (k + 1 - from) 0)
+black-more b from k l =
+    let more : k + 1 - from ≡ suc (k - from) = omega arith in
+    let here : from + (k - from) ≡ k = omega arith in
+    rw more (rw here at (black-next b from (k - from)))
 
 module _ (through : Through) (s : Stretch) where
   abbrev dot : ℕ → Dot
