@@ -48,7 +48,7 @@ module _ (m : Machine) (memory : List ℕ) (free : advanced m memory .refusal �
   moved = ap (λ (t : Ticked). t .next) whole
 
   shown-dots : (t : Bool) → shows (m .regs) (m .generator) ≡ t →
-      dots (m .regs) memory (m .generator) ≡ cond (not t) (black ∷ black ∷ black ∷ black ∷ []) (run (dotOf (m .regs) memory (heldAddress (m .regs) (m .generator)) (v m)) 0 4)
+      dots (m .regs) memory (m .generator) ≡ cond (not t) (black ∷ black ∷ black ∷ black ∷ []) (run (dotOf (m .regs) (m .generator .second) memory (heldAddress (m .regs) (m .generator)) (v m)) 0 4)
   unfolding dots run
   shown-dots true e = simp e
   shown-dots false e = simp e
@@ -94,6 +94,7 @@ module _ (m : Machine) (memory : List ℕ) (free : advanced m memory .refusal �
         colours = rw put-out (shown-dots (shows (m .regs) (m .generator)) refl);
         checksums = rw (moved, put-out) (shown-sums (shows (m .regs) (m .generator)) refl);
         placed = z .placed runs-now;
+        second = rw moved;
         half = rw moved;
         at = rw moved;
         seen = rw moved;

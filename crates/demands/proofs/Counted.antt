@@ -1,7 +1,7 @@
 -- The totals are counts: the fourteen writes lay a sheet's values, the control write starts the screen, and demand 3 counts its frame.
 -- Assumes nothing.
-use Prim.Native.Nat.{ℕ, suc, _+_, _-_, _≤_, _<_}
-use mathlib.Core.Bool.{Bool, true, false}
+use Prim.Native.Nat.{ℕ, suc, _+_, _-_, _/_, _≤_, _<_}
+use mathlib.Core.Bool.{Bool, true, false, xor, true≢false}
 use mathlib.Core.List.{List, [], _∷_, _++_, map, append-nil}
 use mathlib.Core.Path.{_≡_, refl, sym, ap, _∙_}
 use native.Mathlib.Nat.{add-suc, mul-le-mul, div-le-self}
@@ -10,15 +10,22 @@ use borrow.Author.Tests.{ltb-false, eq-eqb, eqb-true, le-leb}
 use lib.Dec.{eqb, ltb}
 use lib.ListN.{length, set, replicate}
 use lib.Seq.{sets, sets-eq}
+use Rattle.base.specs.Count.{run}
 use Rattle.base.proofs.Bools.{neither-holds}
-use Rattle.base.proofs.Run.{run-length}
-use Rattle.control.specs.Control.{running}
-use Rattle.units.specs.Parameters.{screenOf, displayedLines, rowLength}
+use Rattle.control.specs.Control.{running, increment, rowDivisor}
+use Rattle.units.specs.Parameters.{screenOf, inField, displayedLines, rowLength}
 use Rattle.units.specs.declared.Screen.{Screen}
 use Rattle.screen.specs.Range.{most}
-use Rattle.screen.specs.Limits.{laterLimit, limitOf, Bounded}
-use Rattle.screen.specs.Totals.{frameVisible, frameTransfers, framePixels, frameTotals, totalsOf}
-use Rattle.screen.proofs.limits.Laws.{accepted}
+use Rattle.screen.specs.Limits.{laterLimit, limitOf, Bounded, Accepted}
+use Rattle.screen.specs.Totals.{frameTicks, frameVisible, fieldTransfers, frameTransfers, framePixels, frameTotals, totalsOf}
+use Rattle.screen.proofs.limits.Laws.{accepted, accepted-in, unrefused}
+use Rattle.lines.specs.Lines.{fieldVisible}
+use Rattle.generator.proofs.VisibleBefore.{plain-visible}
+use Rattle.frame.specs.Frame.{inFields, pixelsSeen}
+use Rattle.frame.proofs.Gather.{in-fields-same}
+use Rattle.frame.specs.Demand.{firstPlace, fieldDot}
+use Rattle.frame.proofs.Demand.{frame-pixels}
+use Rattle.frame.proofs.Plain.{plain-transfers, plain-unrolled, plain-room}
 use Rattle.screen.proofs.totals.Laws.{totals-counted}
 use Rattle.sheet.specs.Encoding.{over, Bytes}
 use Rattle.sheet.specs.Reader.{readSheet}
@@ -26,7 +33,7 @@ use Rattle.sheet.proofs.Laws.{accepted-encoding}
 use Rattle.registers.specs.Map.{placeOf}
 use Rattle.registers.specs.File.{zeros, storeIn}
 use Rattle.registers.specs.declared.map.Place.the-variants.{Parameter, Control}
-use Rattle.generator.specs.Rows.{screen, topUsed, rowDivisor}
+use Rattle.generator.specs.Rows.{screen}
 use Rattle.generator.specs.Counters.{fresh}
 use Rattle.machine.specs.Access.{startLimit, writeRefusal}
 use Rattle.machine.specs.Calls.{write, writesFrom}
@@ -34,14 +41,41 @@ use Rattle.machine.specs.Rules.{beginning, stored, written}
 use Rattle.machine.specs.declared.Machine.{Machine}
 use Rattle.machine.proofs.access.Passed as passed
 use Rattle.demands.specs.Asked.{Asked, of, afterAsked, afterEvery, TakenEvery}
-use Rattle.demands.specs.Demand3.{Begins, Demand3}
-use Rattle.demands.specs.Counted.{eightBits, eightBitsRunning, Counted, TotalsCounted, TotalsByDepth}
+use Rattle.demands.specs.Demand3.{colours, atField, ticksIn, Begins, Demand3}
+use Rattle.demands.specs.Counted.{eightBits, eightBitsRunning, Counted, TotalsCounted, TotalsOfFrames, TotalsByDepth}
+use Rattle.demands.proofs.Reached.{reached-sound}
 use Rattle.demands.proofs.Third.{demand-3-reached}
 
--- the totals call looks at the depth alone
+-- the totals call looks at the depth and the format alone
 pub totals-by-depth : TotalsByDepth
 unfolding totalsOf limitOf laterLimit
-totals-by-depth control other s e = rw e
+totals-by-depth control other params e f = rw (e, f)
+
+-- the colours of a frame, pixel by pixel
+colours-dots : (m : Machine) (memory : List ℕ) → Demand3 m memory → colours m memory (frameTicks (screen (m .regs))) ≡ inFields (m .regs) (λ second. run (fieldDot (m .regs) second memory) 0 (pixelsSeen (m .regs) second))
+colours-dots m memory d =
+    d .coloured-frame
+    ∙ in-fields-same (m .regs) (λ second. colours (atField m memory second) memory (ticksIn m)) (λ second. run (fieldDot (m .regs) second memory) 0 (pixelsSeen (m .regs) second)) (d .coloured false (λ e. absurd (true≢false (sym e)))) (λ n. d .coloured true (λ e. n))
+
+-- of every frame that is ready to start it answers the counts
+counts-of : (m : Machine) (memory : List ℕ) → Accepted (m .regs .control) (screen (m .regs)) → Begins m memory → Demand3 m memory → Counted m memory (frameTotals (screen (m .regs)))
+counts-of m memory ok b d =
+    record {
+      begins = b;
+      some = d .some;
+      unrefused = d .unrefused;
+      returns = d .returns;
+      not-before = d .not-before;
+      visible = d .visible;
+      transferred = d .transferred;
+      pixels = ap length (colours-dots m memory d) ∙ frame-pixels (m .regs) ok (λ f. fieldDot (m .regs) f memory);
+    }
+
+pub totals-of-frames : TotalsOfFrames
+totals-of-frames calls m reached memory b =
+    let ok = reached-sound calls m reached .accepted (b .running-now) in
+    rw (← (totals-counted (m .regs .control) (m .regs .params) (unrefused (m .regs .control) (screen (m .regs)) ok)))
+    (counts-of m memory ok b (demand-3-reached calls m reached memory b))
 
 -- ---- calls after calls
 
@@ -119,20 +153,25 @@ module _ (values : List ℕ) (fourteen : length values ≡ 14) (small : over val
   unfolding zeros
   writes = let both = laid values beginning 0 refl (omega arith) small in (both .0, both .1 ∙ ap (withParams beginning) all-laid)
 
+  -- it is not interlaced
+  format : screenOf values false .interlaced ≡ false
+  unfolding screenOf
+  format = refl
+
   -- the limits look at the depth alone, so bit 0 makes no difference
-  limits-same : limitOf eightBitsRunning (screenOf values) ≡ limitOf eightBits (screenOf values)
+  limits-same : limitOf eightBitsRunning (screenOf values false) ≡ limitOf eightBits (screenOf values false)
   unfolding limitOf laterLimit
   limits-same = refl
 
-  start-refusal : written (laidOut values) 0x060 eightBitsRunning .refusal ≡ limitOf eightBits (screenOf values)
-  unfolding written placeOf writeRefusal startLimit
+  start-refusal : written (laidOut values) 0x060 eightBitsRunning .refusal ≡ limitOf eightBits (screenOf values false)
+  unfolding written placeOf writeRefusal startLimit zeros xor
   start-refusal = limits-same
 
-  totals-refusal : totalsOf eightBits (screenOf values) .refusal ≡ limitOf eightBits (screenOf values)
+  totals-refusal : totalsOf eightBits values .refusal ≡ limitOf eightBits (screenOf values false)
   unfolding totalsOf
-  totals-refusal = go (eqb (limitOf eightBits (screenOf values)) 0) refl
+  totals-refusal = go (eqb (limitOf eightBits (screenOf values false)) 0) refl
     where
-      go : (t : Bool) → eqb (limitOf eightBits (screenOf values)) 0 ≡ t → totalsOf eightBits (screenOf values) .refusal ≡ limitOf eightBits (screenOf values)
+      go : (t : Bool) → eqb (limitOf eightBits (screenOf values false)) 0 ≡ t → totalsOf eightBits values .refusal ≡ limitOf eightBits (screenOf values false)
       go true e = simp e (sym (eqb-true _ 0 e))
       go false e = simp e
 
@@ -142,43 +181,53 @@ module _ (values : List ℕ) (fourteen : length values ≡ 14) (small : over val
 
   -- ---- what is started begins a frame
 
-  module _ (ok : limitOf eightBits (screenOf values) ≡ 0) where
+  module _ (ok : limitOf eightBits (screenOf values false) ≡ 0) where
     abbrev S : Screen
-    S = screenOf values
+    S = screenOf values false
 
     bound : Bounded most S
     bound = accepted eightBits S ok .bounded
 
+    okay : Accepted eightBitsRunning (screen (running8 values .regs))
+    unfolding storeIn
+    okay = accepted eightBitsRunning S (limits-same ∙ ok)
+
+    one-field-transfers : frameTransfers S ≡ fieldTransfers (inField false S)
+    unfolding storeIn
+    one-field-transfers = sym (plain-transfers (running8 values .regs) okay format)
+
+    whole-field : fieldVisible (inField false S) ≡ frameVisible S
+    whole-field = plain-visible eightBits (inField false S) (accepted-in S false (accepted eightBits S ok)) one-field
+      where
+        one-field : S .interlaced ≡ false
+        one-field = format
+
     few : frameTransfers S ≤ 0xFFFFFF
     few =
-        let all = mul-le-mul {n₁ = S .display .0} {m₁ = displayedLines S} {n₂ = 4095} {m₂ = 2047} (omega (arith, bound .display)) (omega (arith, bound .vdisplay)) in
-        omega (arith, all, div-le-self (frameVisible S + (rowLength S - 1)) (rowLength S), bound .meminit, bound .transferdelay)
+        let lines : displayedLines S ≡ S .vdisplay .0 / 2 = simp format in
+        let all = mul-le-mul {n₁ = S .display .0} {m₁ = displayedLines S} {n₂ = 4095} {m₂ = 2047} (omega (arith, bound .display)) (omega (arith, bound .vdisplay, lines)) in
+        omega (arith, all, whole-field, one-field-transfers, div-le-self (fieldVisible (inField false S) + (rowLength S - 1)) (rowLength S), bound .meminit, bound .transferdelay)
+
+    -- its first pixel is the memory's first
+    first-place : firstPlace (running8 values .regs) ≡ 0
+    unfolding storeIn zeros rowDivisor increment
+    first-place = omega arith
 
     begins : (memory : List ℕ) → framePixels S ≤ length memory → Begins (running8 values) memory
-    unfolding storeIn zeros topUsed rowDivisor
+    unfolding storeIn zeros increment
     begins memory enough =
         record {
           running-now = refl;
-          at-start = record { half = refl; at = refl };
+          at-start = record { field = refl; half = refl; at = refl };
           transferring-now = refl;
           unblanked = refl;
-          room = omega (arith, enough);
-          unrolled = omega (arith, few);
+          room = plain-room (running8 values .regs) okay format memory (omega (arith, enough, first-place));
+          unrolled = plain-unrolled (running8 values .regs) okay format (omega (arith, few));
         }
 
     counts : (memory : List ℕ) → framePixels S ≤ length memory → Demand3 (running8 values) memory → Counted (running8 values) memory (frameTotals S)
     unfolding storeIn
-    counts memory enough d =
-        record {
-          begins = begins memory enough;
-          some = d .some;
-          unrefused = d .unrefused;
-          returns = d .returns;
-          not-before = d .not-before;
-          visible = d .visible;
-          transferred = d .transferred;
-          pixels = ap length (d .coloured) ∙ run-length _ 0 (framePixels S);
-        }
+    counts memory enough d = counts-of (running8 values) memory okay (begins memory enough) d
 
     abbrev calls : List Asked
     calls = map of (writesFrom 0x021 values) ++ (of (write 0x060 eightBitsRunning) ∷ [])
@@ -195,9 +244,9 @@ module _ (values : List ℕ) (fourteen : length values ≡ 14) (small : over val
     all-taken : TakenEvery beginning calls
     all-taken = taken-append beginning (map of (writesFrom 0x021 values)) (of (write 0x060 eightBitsRunning) ∷ []) (writes .0) (rw (writes .1) (free, tt))
 
-    all-counted : (memory : List ℕ) → totalsOf eightBits S .pixels .0 ≤ length memory → Counted (afterEvery beginning calls) memory (totalsOf eightBits S)
+    all-counted : (memory : List ℕ) → totalsOf eightBits values .pixels .0 ≤ length memory → Counted (afterEvery beginning calls) memory (totalsOf eightBits values)
     all-counted memory enough =
-        let same = totals-counted eightBits S ok in
+        let same = totals-counted eightBits values ok in
         let room = rw (← same) at enough in
         rw (← same, reached) (counts memory room (demand-3-reached calls (running8 values) (sym reached) memory (begins memory room)))
 

@@ -18,7 +18,7 @@ use Rattle.registers.specs.declared.map.Place.the-variants.{Palette}
 use Rattle.colour.specs.Colour.{maskedColour}
 use Rattle.colour.proofs.Laws.{palettes-agree}
 use Rattle.pixel.specs.Dot.{dotAt}
-use Rattle.generator.specs.Rows.{visibleAt, shows, topUsed, taken, transferAt, heldAddress, rowDivisor, place}
+use Rattle.generator.specs.Rows.{visibleAt, shows, topUsed, taken, transferAt, heldAddress, place}
 use Rattle.generator.specs.Tick.{dotOf, dots, refuses20, signalsWith, tickRefusal, tickOf}
 use Rattle.machine.specs.Rules.{stored, written, advanced}
 use Rattle.machine.specs.declared.Machine.{Machine}
@@ -55,7 +55,7 @@ palette-written m k v l e = simp (eq-eqb _ 0 e) (rw (palette-place k l))
 module _ (m : Machine) (memory : List ℕ) where
   -- the four pixels of a tick that is answered and shows
   shown-dots : tickRefusal (m .regs) memory (m .generator) ≡ 0 → shows (m .regs) (m .generator) ≡ true →
-      advanced m memory .signals .dots ≡ run (dotOf (m .regs) memory (heldAddress (m .regs) (m .generator)) (m .generator .seen .0)) 0 4
+      advanced m memory .signals .dots ≡ run (dotOf (m .regs) (m .generator .second) memory (heldAddress (m .regs) (m .generator)) (m .generator .seen .0)) 0 4
   unfolding advanced tickOf dots signalsWith
   shown-dots e s = simp (eq-eqb _ 0 e, s)
 
@@ -69,7 +69,7 @@ module _ (m : Machine) (memory : List ℕ) where
 
   -- its colour is the palette's, where the cursor is transparent
   pixel-colour : (k : ℕ) → codeNext m k ≡ 0 →
-      dotOf (m .regs) memory (heldAddress (m .regs) (m .generator)) (m .generator .seen .0) k .colour ≡ maskedColour (m .regs .palette) (m .regs .mask) (pixelNext m memory k)
+      dotOf (m .regs) (m .generator .second) memory (heldAddress (m .regs) (m .generator)) (m .generator .seen .0) k .colour ≡ maskedColour (m .regs .palette) (m .regs .mask) (pixelNext m memory k)
   unfolding dotOf dotAt
   pixel-colour k c = rw c
 
@@ -77,7 +77,7 @@ module _ (m : Machine) (memory : List ℕ) where
       getD (advanced m memory .signals .dots) k black .colour ≡ maskedColour (m .regs .palette) (m .regs .mask) (pixelNext m memory k)
   pixel-at k l e s c =
       ap (λ (four : List Dot). getD four k black .colour) (shown-dots e s)
-      ∙ ap (λ (d : Dot). d .colour) (run-entry (dotOf (m .regs) memory (heldAddress (m .regs) (m .generator)) (m .generator .seen .0)) 0 4 k black l)
+      ∙ ap (λ (d : Dot). d .colour) (run-entry (dotOf (m .regs) (m .generator .second) memory (heldAddress (m .regs) (m .generator)) (m .generator .seen .0)) 0 4 k black l)
       ∙ rw zero-add (pixel-colour k c)
 
 -- what does not ask the palette
@@ -90,11 +90,11 @@ module _ (m : Machine) (palette memory : List ℕ) where
   same-shows = refl
 
   same-refusal : tickRefusal (n .regs) memory (m .generator) ≡ tickRefusal (m .regs) memory (m .generator)
-  unfolding tickRefusal refuses20 shows visibleAt heldAddress transferAt taken topUsed place rowDivisor
+  unfolding tickRefusal refuses20 shows visibleAt heldAddress transferAt taken topUsed place
   same-refusal = refl
 
   same-pixel : (k : ℕ) → pixelNext n memory k ≡ pixelNext m memory k
-  unfolding heldAddress transferAt taken topUsed place rowDivisor visibleAt
+  unfolding heldAddress transferAt taken topUsed place visibleAt
   same-pixel k = refl
 
   -- TWO PALETTES THAT DIFFER WHERE A PIXEL SHOWS GIVE TICKS THAT DIFFER

@@ -7,6 +7,8 @@ use native.Mathlib.Omega.{arith}
 use borrow.Author.Tests.{ne-eqb, lt-ltb, le-ltb, ltb-true, ltb-false, eqb-true}
 use lib.Dec.{eqb, ltb}
 use lib.ListN.{length, getD, drop, replicate, length-drop}
+use Rattle.control.specs.Control.{interlaced}
+use Rattle.units.specs.Parameters.{screenOf}
 use Rattle.units.specs.declared.Screen.{Screen}
 use Rattle.screen.specs.Limits.{laterLimit, limitOf}
 use Rattle.screen.specs.Totals.{refused, totalsOf}
@@ -90,21 +92,25 @@ compare-zero a b n = go (nineLong a b) n
 
 -- ---- a screen's totals
 
-totals-number : (control : ℕ) (s : Screen) → totalsOf control s .refusal ≡ limitOf control s
-unfolding totalsOf
-totals-number control s = go (eqb (limitOf control s) 0) refl
-  where
-    go : (t : Bool) → eqb (limitOf control s) 0 ≡ t → totalsOf control s .refusal ≡ limitOf control s
-    go true e = simp e (sym (eqb-true _ 0 e))
-    go false e = simp e
+module _ (control : ℕ) (params : List ℕ) where
+  abbrev asked : Screen
+  asked = screenOf params (interlaced control)
 
-totals-first : (control : ℕ) (s : Screen) → totalsOf control s .refusal ≡ firstOf (totalsOrder control s)
-unfolding limitOf laterLimit
-totals-first control s = totals-number control s
+  totals-number : totalsOf control params .refusal ≡ limitOf control asked
+  unfolding totalsOf
+  totals-number = go (eqb (limitOf control asked) 0) refl
+    where
+      go : (t : Bool) → eqb (limitOf control asked) 0 ≡ t → totalsOf control params .refusal ≡ limitOf control asked
+      go true e = simp e (sym (eqb-true _ 0 e))
+      go false e = simp e
 
-totals-zero : (control : ℕ) (s : Screen) → (totalsOf control s .refusal ≡ 0 → ⊥) → totalsOf control s ≡ refused (totalsOf control s .refusal)
-unfolding totalsOf
-totals-zero control s n = simp (ne-eqb (limitOf control s) 0 (λ e. n (totals-number control s ∙ e)))
+  totals-first : totalsOf control params .refusal ≡ firstOf (totalsOrder control asked)
+  unfolding limitOf laterLimit
+  totals-first = totals-number
+
+  totals-zero : (totalsOf control params .refusal ≡ 0 → ⊥) → totalsOf control params ≡ refused (totalsOf control params .refusal)
+  unfolding totalsOf
+  totals-zero n = simp (ne-eqb (limitOf control asked) 0 (λ e. n (totals-number ∙ e)))
 
 -- DEMAND 1, OF THE CALLS WITHOUT A MACHINE
 pub demand-1-paper : Paper

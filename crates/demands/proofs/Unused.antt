@@ -20,7 +20,7 @@ use Rattle.registers.specs.declared.map.Place.the-variants.{Reserved, Parameter
 use Rattle.registers.specs.declared.Registers.{Registers}
 use Rattle.registers.proofs.map.Laws.{address-single}
 use Rattle.lines.specs.Lines.{period}
-use Rattle.generator.specs.Rows.{screen, visibleAt}
+use Rattle.generator.specs.Rows.{screenUnder, screen, visibleAt}
 use Rattle.generator.specs.Counters.{displaying}
 use Rattle.generator.specs.Tick.{tickOf, after}
 use Rattle.generator.specs.declared.Generator.{Generator}
@@ -31,8 +31,9 @@ use Rattle.machine.specs.Calls.{write, read, tick}
 use Rattle.machine.specs.Rules.{stored, written, readRefusal, valueAt, answered, advanced}
 use Rattle.machine.specs.declared.Machine.{Machine}
 use Rattle.machine.proofs.access.Passed.{passed}
-use Rattle.machine.proofs.Unused.{same-running, same-visible, same-tick}
+use Rattle.machine.proofs.Unused.{same-running, same-interlaced, same-changes, same-visible, same-tick}
 use Rattle.frame.specs.Frame.{drawn, refusedWithin}
+use Rattle.frame.proofs.Gather.{gathered-same}
 use Rattle.picture.specs.Picture.{pictureRefusal, drawnOf, bufferOf}
 use Rattle.picture.specs.declared.Drawn.{Drawn}
 use Rattle.picture.specs.Machines.{pictured}
@@ -123,9 +124,13 @@ module _ (own : Place) (r other : Registers) (a : Near own r other) where
   entry-same : (k : ℕ) → eqb k 11 ≡ false → getD (other .params) k 0 ≡ getD (r .params) k 0
   entry-same k e = parameter-same k (eqb-false k 11 e)
 
-  screen-same : screen other ≡ withLineStart (screen r) start
+  -- under any control word
+  under-same : (v : ℕ) → screenUnder other v ≡ withLineStart (screenUnder r v) start
   unfolding screenOf
-  screen-same = rw (entry-same 0 refl, entry-same 1 refl, entry-same 2 refl, entry-same 3 refl, entry-same 4 refl, entry-same 5 refl, entry-same 6 refl, entry-same 7 refl, entry-same 8 refl, entry-same 9 refl, entry-same 10 refl, entry-same 12 refl, entry-same 13 refl)
+  under-same v = rw (entry-same 0 refl, entry-same 1 refl, entry-same 2 refl, entry-same 3 refl, entry-same 4 refl, entry-same 5 refl, entry-same 6 refl, entry-same 7 refl, entry-same 8 refl, entry-same 9 refl, entry-same 10 refl, entry-same 12 refl, entry-same 13 refl)
+
+  screen-same : screen other ≡ withLineStart (screen r) start
+  screen-same = under-same (other .control) ∙ ap (λ (b : Bool). withLineStart (screenOf (r .params) b) start) (same-interlaced (r .control) (other .control) (a .part .mode))
 
   alike : Alike r other start
   alike =
@@ -162,13 +167,13 @@ module _ (own : Place) (r other : Registers) (a : Near own r other) where
   value-same (Store k) n = ap (λ (l : List ℕ). getD l k 0) (alike .store)
 
   -- a write's refusal
-  limit-same : (v : ℕ) → limitOf v (screen other) ≡ limitOf v (screen r)
+  limit-same : (v : ℕ) → limitOf v (screenUnder other v) ≡ limitOf v (screenUnder r v)
   unfolding limitOf laterLimit
-  limit-same v = rw screen-same
+  limit-same v = rw (under-same v)
 
   refusal-same : (p : Place) (v : ℕ) → writeRefusal other p v ≡ writeRefusal r p v
   unfolding writeRefusal startLimit
-  refusal-same p v = rw (running-same, limit-same v)
+  refusal-same p v = rw (same-changes r other start alike v, running-same, limit-same v)
 
   module _ (memory : List ℕ) (g : Generator) where
     displaying-same : displaying other g ≡ displaying r g
@@ -196,9 +201,7 @@ module _ (own : Place) (r other : Registers) (a : Near own r other) where
     visible-same n = ap (visibleAt other) (after-same n) ∙ same-visible r other start alike (after r memory g n)
 
     drawn-same : (n : ℕ) → drawn other memory g n ≡ drawn r memory g n
-    unfolding drawn
-    drawn-same zero = refl
-    drawn-same (suc n) = rw (visible-same n, tick-after-same n, drawn-same n)
+    drawn-same n = gathered-same _ _ _ _ n (λ k l. visible-same k) (λ k. ap (λ (t : Ticked). t .signals .dots) (tick-after-same k))
 
     ticks-same : frameTicks (screen other) ≡ frameTicks (screen r)
     ticks-same = rw screen-same

@@ -1,5 +1,5 @@
 -- DEMAND 2, a tick that is answered: every signal, address, colour and checksum is what document 01's rules say ("Lines and frames", "Rows and
--- pixels"). m: the machine before the tick, memory: the picture memory. Assumes nothing.
+-- pixels"), and document 02's (Q-4). m: the machine before the tick, memory: the picture memory. Assumes nothing.
 use Prim.Native.Nat.{ℕ, _+_, _%_}
 use mathlib.Core.Bool.{Bool, not, cond, _&&_}
 use mathlib.Core.List.{List, [], _∷_}
@@ -9,22 +9,21 @@ use Rattle.base.specs.Count.{run}
 use Rattle.control.specs.Control.{forcedBlank, plain, transferring}
 use Rattle.units.specs.Parameters.{rowLength}
 use Rattle.units.specs.declared.Screen.{Screen}
-use Rattle.screen.specs.Totals.{frameVisible}
 use Rattle.signals.specs.Signals.{black}
 use Rattle.signals.specs.declared.Signals.{Signals}
 use Rattle.pixel.specs.Sums.{clearedAt, summed}
 use Rattle.pixel.specs.declared.Sums.{Sums}
-use Rattle.lines.specs.Lines.{period, isVSync, isVDisplay, syncLow, visible, opens, closes, nextHalf, nextAt, tickNumber}
-use Rattle.generator.specs.Rows.{screen, heldAddress, leads}
+use Rattle.lines.specs.Lines.{period, isVSync, isVDisplay, syncLow, visible, opens, closes, nextSecond, nextHalf, nextAt, tickNumber, fieldVisible}
+use Rattle.generator.specs.Rows.{fieldAt, heldAddress, leads}
 use Rattle.generator.specs.Sound.{Placed}
 use Rattle.generator.specs.Tick.{dotOf}
 use Rattle.generator.specs.declared.Generator.{Generator}
 use Rattle.machine.specs.Rules.{advanced}
 use Rattle.machine.specs.declared.Machine.{Machine}
 
--- the screen, and the tick's half line in the frame, its place in that half line, and v
+-- the screen in the field at hand, and the tick's half line in it, its place in that half line, and v
 abbrev pub screenNow : Machine → Screen
-screenNow m = screen (m .regs)
+screenNow m = fieldAt (m .regs) (m .generator)
 
 abbrev pub halfNow : Machine → ℕ
 halfNow m = m .generator .half .0
@@ -47,14 +46,14 @@ abbrev pub next : Machine → List ℕ → Generator
 next m memory = advanced m memory .machine .generator
 
 -- the request: at visible tick v by v mod R; before the first in the TransferDelay ticks just before it; between lines as at the visible tick before;
--- after the frame's last low
+-- after the field's last low
 abbrev pub requestNow : Machine → Bool
 requestNow m =
     cond (visibleNow m) (leb (screenNow m .meminit .0) (v m % rowLength (screenNow m)))
     (cond (eqb (v m) 0) (leads (screenNow m) (tickNumber (screenNow m) (halfNow m) (atNow m)))
-    (ltb (v m) (frameVisible (screenNow m)) && m .generator .asked))
+    (ltb (v m) (fieldVisible (screenNow m)) && m .generator .asked))
 
--- sums clear at the first VDisplay tick
+-- sums clear at the first VDisplay tick of each field
 abbrev pub clearedNow : Machine → Sums
 clearedNow m = clearedAt (opens (screenNow m) (halfNow m) (atNow m)) (m .generator .sums)
 
@@ -73,12 +72,13 @@ pub record ByTheRules (m : Machine) (memory : List ℕ) : Type 0 where
   -- the four colours: by the pixel's rule, and black where blank
   pub colours :
       out m memory .dots
-      ≡ cond (out m memory .blank) (black ∷ black ∷ black ∷ black ∷ []) (run (dotOf (m .regs) memory (heldAddress (m .regs) (m .generator)) (v m)) 0 4)
+      ≡ cond (out m memory .blank) (black ∷ black ∷ black ∷ black ∷ []) (run (dotOf (m .regs) (m .generator .second) memory (heldAddress (m .regs) (m .generator)) (v m)) 0 4)
   -- each unblanked colour byte put out is added to its 24-bit sum, and nothing else is
   pub checksums : next m memory .sums ≡ cond (out m memory .blank) (clearedNow m) (summed (clearedNow m) (out m memory .dots))
-  -- it lies inside the frame, and v counts the frame's visible ticks before it
+  -- it lies inside its field, and v counts the field's visible ticks before it
   pub placed : Placed (screenNow m) (m .generator)
-  -- what it leaves: the place one tick on, v, the last address, the request at the visible tick before; and every register
+  -- what it leaves: the field and the place one tick on, v, the last address, the request at the visible tick before; and every register
+  pub second : next m memory .second ≡ nextSecond (screenNow m) (halfNow m) (atNow m)
   pub half : next m memory .half .0 ≡ nextHalf (screenNow m) (halfNow m) (atNow m)
   pub at : next m memory .at .0 ≡ nextAt (screenNow m) (atNow m)
   pub seen : next m memory .seen .0 ≡ cond (closes (screenNow m) (halfNow m) (atNow m)) 0 (cond (visibleNow m) (v m + 1) (v m))

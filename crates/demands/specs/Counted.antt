@@ -5,9 +5,7 @@ use mathlib.Core.List.{List, [], _∷_, _++_, map}
 use mathlib.Core.Path.{_≡_}
 use lib.ListN.{length}
 use Rattle.base.specs.Count.{count}
-use Rattle.control.specs.Control.{depth}
-use Rattle.units.specs.Parameters.{screenOf}
-use Rattle.units.specs.declared.Screen.{Screen}
+use Rattle.control.specs.Control.{interlaced, depth}
 use Rattle.screen.specs.Totals.{totalsOf}
 use Rattle.screen.specs.declared.totals.Totals.{Totals}
 use Rattle.sheet.specs.Reader.{readSheet}
@@ -29,7 +27,7 @@ eightBitsRunning = 0x300001
 
 -- what it answers of a good sheet
 abbrev pub printed : List ℕ → Totals
-printed sheet = totalsOf eightBits (screenOf (readSheet sheet .values))
+printed sheet = totalsOf eightBits (readSheet sheet .values)
 
 -- the machine from its beginning with the sheet's fourteen values written from #021 on, and then started
 abbrev pub fourteenWrites : List ℕ → List Asked
@@ -61,6 +59,11 @@ pub record TotalsCounted (sheet : List ℕ) : Type 0 where
   pub started : printed sheet .refusal ≡ 0 → TakenEvery beginning (startCalls sheet)
   pub counted : printed sheet .refusal ≡ 0 → (memory : List ℕ) → printed sheet .pixels .0 ≤ length memory → Counted (startedFrom sheet) memory (printed sheet)
 
--- and of every control word, transfers off or outside the build among them, the totals call looks at the depth alone
+-- of every machine whose frame is ready to start, in either format, the totals call answers the counts
+abbrev pub TotalsOfFrames : Type 0
+TotalsOfFrames = (calls : List Asked) (m : Machine) → m ≡ afterEvery beginning calls → (memory : List ℕ) → Begins m memory → Counted m memory (totalsOf (m .regs .control) (m .regs .params))
+
+-- and of every control word, transfers off or outside the build among them, the totals call looks at the depth and the format alone
 abbrev pub TotalsByDepth : Type 0
-TotalsByDepth = (control other : ℕ) (s : Screen) → depth other ≡ depth control → totalsOf other s ≡ totalsOf control s
+TotalsByDepth =
+    (control other : ℕ) (params : List ℕ) → depth other ≡ depth control → interlaced other ≡ interlaced control → totalsOf other params ≡ totalsOf control params

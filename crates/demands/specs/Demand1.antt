@@ -8,10 +8,11 @@ use mathlib.Core.List.{List, [], _∷_}
 use mathlib.Core.Path.{_≡_}
 use lib.Dec.{ltb, eqb}
 use lib.ListN.{length, getD, drop, replicate}
-use Rattle.control.specs.Control.{running}
+use Rattle.control.specs.Control.{running, interlaced}
+use Rattle.units.specs.Parameters.{screenOf}
 use Rattle.units.specs.declared.Screen.{Screen}
 use Rattle.screen.specs.Range.{refuses10}
-use Rattle.screen.specs.Limits.{refuses11, refuses12, refuses13, refuses14, refuses15, refuses16, refuses17}
+use Rattle.screen.specs.Limits.{refuses11, refuses12, refuses13, refuses14, refuses15, refuses16, refuses17, refuses18}
 use Rattle.screen.specs.Totals.{frameTicks, refused, totalsOf}
 use Rattle.sheet.specs.Encoding.{tags, over}
 use Rattle.sheet.specs.Reader.{pair, readSheet}
@@ -21,7 +22,7 @@ use Rattle.vault.specs.Compare.{compared}
 use Rattle.station.specs.Number.{checksumsNumber, fieldNumber}
 use Rattle.registers.specs.Map.{placeOf, isControl, isReserved}
 use Rattle.signals.specs.Signals.{silent}
-use Rattle.generator.specs.Rows.{screen}
+use Rattle.generator.specs.Rows.{screenUnder, screen}
 use Rattle.generator.specs.Tick.{refuses20, tickOf}
 use Rattle.machine.specs.Access.{writeRefuses2, writeRefuses1, refuses3, writeRefuses4}
 use Rattle.machine.specs.Rules.{written, refuses5, answered, advanced}
@@ -43,7 +44,7 @@ abbrev pub firstOf : List Refusal → ℕ
 firstOf [] = 0
 firstOf (r ∷ later) = cond (r .holds) (r .number) (firstOf later)
 
--- a write: 2, 1, 3, 4; then, of a control word with bit 0 set, 10 to 17 as that word stands
+-- a write: 2, 1, 3, 4; then, of a control word with bit 0 set, 10 to 18 as that word stands
 abbrev pub limitsChecked : ℕ → ℕ → Bool
 limitsChecked address value = isControl (placeOf address) && running value
 
@@ -52,15 +53,16 @@ writeOrder m address value =
     when (writeRefuses2 (placeOf address)) 2 ∷
     when (writeRefuses1 (placeOf address) value) 1 ∷
     when (refuses3 (m .regs) (placeOf address)) 3 ∷
-    when (writeRefuses4 (placeOf address) value) 4 ∷
-    when (limitsChecked address value && refuses10 (screen (m .regs))) 10 ∷
-    when (limitsChecked address value && refuses11 (screen (m .regs))) 11 ∷
-    when (limitsChecked address value && refuses12 (screen (m .regs))) 12 ∷
-    when (limitsChecked address value && refuses13 (screen (m .regs))) 13 ∷
-    when (limitsChecked address value && refuses14 (screen (m .regs))) 14 ∷
-    when (limitsChecked address value && refuses15 value (screen (m .regs))) 15 ∷
-    when (limitsChecked address value && refuses16 (screen (m .regs))) 16 ∷
-    when (limitsChecked address value && refuses17 (screen (m .regs))) 17 ∷
+    when (writeRefuses4 (m .regs) (placeOf address) value) 4 ∷
+    when (limitsChecked address value && refuses10 (screenUnder (m .regs) value)) 10 ∷
+    when (limitsChecked address value && refuses11 (screenUnder (m .regs) value)) 11 ∷
+    when (limitsChecked address value && refuses12 (screenUnder (m .regs) value)) 12 ∷
+    when (limitsChecked address value && refuses13 (screenUnder (m .regs) value)) 13 ∷
+    when (limitsChecked address value && refuses14 (screenUnder (m .regs) value)) 14 ∷
+    when (limitsChecked address value && refuses15 value (screenUnder (m .regs) value)) 15 ∷
+    when (limitsChecked address value && refuses16 (screenUnder (m .regs) value)) 16 ∷
+    when (limitsChecked address value && refuses17 (screenUnder (m .regs) value)) 17 ∷
+    when (limitsChecked address value && refuses18 (screenUnder (m .regs) value)) 18 ∷
     []
 
 -- a read: 2, 3, 5; a tick: 23, 20; a picture: 22, 21, 20
@@ -117,7 +119,7 @@ fieldOrder sheet tag = when (ltb tag 0x21 || ltb 0x2E tag) 31 ∷ sheetOrder tag
 abbrev pub compareOrder : List ℕ → List ℕ → List Refusal
 compareOrder a b = when (not (eqb (length a) 9)) 24 ∷ when (not (eqb (length b) 9)) 24 ∷ []
 
--- a screen's totals: 10 to 17
+-- a screen's totals: 10 to 18
 abbrev pub totalsOrder : ℕ → Screen → List Refusal
 totalsOrder control s =
     when (refuses10 s) 10 ∷
@@ -128,6 +130,7 @@ totalsOrder control s =
     when (refuses15 control s) 15 ∷
     when (refuses16 s) 16 ∷
     when (refuses17 s) 17 ∷
+    when (refuses18 s) 18 ∷
     []
 
 pub record Paper : Type 0 where
@@ -144,6 +147,6 @@ pub record Paper : Type 0 where
   pub host-field : (sheet : List ℕ) (tag : ℕ) → fieldNumber sheet tag ≡ firstOf (fieldOrder sheet tag) * 2 ^ 32 + fieldOf sheet tag .value
   pub host-compare : (a b : List ℕ) → checksumsNumber a b ≡ firstOf (compareOrder a b) * 2 ^ 32 + cond (compared a b .equal) 1 0
   -- what one frame of a screen comes to; `refused` has 0 for all else
-  pub totals : (control : ℕ) (s : Screen) → totalsOf control s .refusal ≡ firstOf (totalsOrder control s)
+  pub totals : (control : ℕ) (params : List ℕ) → totalsOf control params .refusal ≡ firstOf (totalsOrder control (screenOf params (interlaced control)))
   pub totals-refused :
-      (control : ℕ) (s : Screen) → (totalsOf control s .refusal ≡ 0 → ⊥) → totalsOf control s ≡ refused (totalsOf control s .refusal)
+      (control : ℕ) (params : List ℕ) → (totalsOf control params .refusal ≡ 0 → ⊥) → totalsOf control params ≡ refused (totalsOf control params .refusal)

@@ -18,7 +18,7 @@ use Rattle.registers.specs.Map.{placeOf, isControl}
 use Rattle.memory.specs.Memory.{pixelShown}
 use Rattle.cursor.specs.Cursor.{codeOver}
 use Rattle.generator.specs.Rows.{screen, heldAddress, place}
-use Rattle.generator.specs.Tick.{positionUsed, tickOf}
+use Rattle.generator.specs.Tick.{positionUsed, inLines, tickOf}
 use Rattle.generator.specs.Counters.{fresh}
 use Rattle.generator.specs.Sound.{Rolled}
 use Rattle.machine.specs.Calls.{write, read, tick}
@@ -59,8 +59,8 @@ pixelNext m memory k =
 
 abbrev pub codeNext : Machine → ℕ → ℕ
 codeNext m k =
-    codeOver (m .regs .control) (positionUsed (m .regs)) (m .regs .store) (4 * (m .generator .seen .0 % screen (m .regs) .display .0) + k)
-    (m .generator .seen .0 / screen (m .regs) .display .0)
+    codeOver (m .regs .control) (positionUsed (m .regs)) (m .regs .store) (4 * (inLines (m .regs) (m .generator .second) (m .generator .seen .0) % screen (m .regs) .display .0) + k)
+    (inLines (m .regs) (m .generator .second) (m .generator .seen .0) / screen (m .regs) .display .0)
 
 -- two palettes that agree, channel by channel, at the entries that a pixel picks under the mask
 pub record AgreeAt (palette other : List ℕ) (mask pixel : ℕ) : Type 0 where
