@@ -11,7 +11,7 @@ use Rattle.generator.specs.Rows.{screen}
 use Rattle.generator.specs.Tick.{tickOf}
 use Rattle.generator.specs.Stand.{Runs}
 use Rattle.generator.specs.Sound.{Sound}
-use Rattle.generator.specs.Dark.{frameTick, ticksToVDisplay, movedTo}
+use Rattle.generator.specs.Dark.{fieldTick, ticksToVDisplay, movedTo}
 use Rattle.generator.specs.declared.Generator.{Generator}
 use Rattle.generator.proofs.Kept.{tick-sound}
 use Rattle.generator.proofs.Dark.{moved-from, moved-taken, moved-next}
@@ -31,18 +31,18 @@ module _ (memory : List ℕ) (m : Machine) (r : Registers) (now : Generator) (z 
     (done : ℕ) (e : _≡_ {A = Ran} (record { done = done; refusal = 0; machine = machineOf r now }) (ranOf memory m done)) where
   -- j of them
   pub record Dark (j : ℕ) : Type 0 where
-    pub ran : _≡_ {A = Ran} (record { done = done + j; refusal = 0; machine = machineOf r (movedTo (screen r) now (frameTick (screen r) now + j)) }) (ranOf memory m (done + j))
-    pub sound : Sound r (movedTo (screen r) now (frameTick (screen r) now + j))
+    pub ran : _≡_ {A = Ran} (record { done = done + j; refusal = 0; machine = machineOf r (movedTo (screen r) now (fieldTick (screen r) now + j)) }) (ranOf memory m (done + j))
+    pub sound : Sound r (movedTo (screen r) now (fieldTick (screen r) now + j))
 
-  dark : (j : ℕ) → frameTick (screen r) now + j ≤ ticksToVDisplay (screen r) → Dark j
+  dark : (j : ℕ) → fieldTick (screen r) now + j ≤ ticksToVDisplay (screen r) → Dark j
   dark zero l = record { ran = rw (add-zero, add-zero, ← (moved-from r now k early)) e; sound = rw (add-zero, ← (moved-from r now k early)) z }
   dark (suc j) l =
       let before = dark j (omega arith) in
-      let n = frameTick (screen r) now + j in
+      let n = fieldTick (screen r) now + j in
       let inside : n < ticksToVDisplay (screen r) = omega arith in
-      let number : frameTick (screen r) now + suc j ≡ n + 1 = omega arith in
+      let number : fieldTick (screen r) now + suc j ≡ n + 1 = omega arith in
       let count : done + suc j ≡ done + j + 1 = omega arith in
-      let next : movedTo (screen r) now (frameTick (screen r) now + suc j) ≡ tickOf r memory (movedTo (screen r) now n) .next = rw number (sym (moved-next r now k early memory n inside)) in
+      let next : movedTo (screen r) now (fieldTick (screen r) now + suc j) ≡ tickOf r memory (movedTo (screen r) now n) .next = rw number (sym (moved-next r now k early memory n inside)) in
       record {
         ran =
             ap (λ (g : Generator). record { done = done + suc j; refusal = 0; machine = machineOf r g }) next

@@ -15,16 +15,14 @@ use Rattle.control.specs.Control.{running}
 use Rattle.screen.specs.Totals.{frameTicks}
 use Rattle.registers.specs.declared.Registers.{Registers}
 use Rattle.generator.specs.Rows.{screen}
-use Rattle.generator.specs.Tick.{refuses20, tickRefusal, tickOf, after}
+use Rattle.generator.specs.Tick.{tickOf, after}
 use Rattle.generator.specs.Sound.{Sound}
 use Rattle.generator.specs.declared.Generator.{Generator}
 use Rattle.generator.specs.declared.Went.{Went}
-use Rattle.generator.proofs.Rows.{top-used-in}
 use Rattle.machine.specs.Rules.{advanced}
 use Rattle.machine.specs.declared.Machine.{Machine}
-use Rattle.machine.proofs.Theorems.{tick-number}
 use Rattle.frame.specs.Frame.{AtStart, refusedWithin, pictureRefuses20, frameEnd}
-use Rattle.frame.proofs.Whole.{frame-end-start, whole, unrefused}
+use Rattle.frame.proofs.Whole.{frame-end-start, whole, unrefused-frame}
 use Rattle.calls.specs.Calls.{ranOn, ranOf}
 use Rattle.calls.specs.Runs.{machineOf, ranIn, Part, Exactly}
 use Rattle.calls.specs.declared.Ran.{Ran}
@@ -115,10 +113,7 @@ module _ (r : Registers) (memory : List ℕ) where
       -- the generator that it leaves
       module _ (y : Sound r (frameEnd r memory)) where
         free : (k : ℕ) → k < F → tickOf r memory (after r memory (frameEnd r memory) k) .refusal ≡ 0
-        unfolding tickRefusal
-        free k l =
-            tick-number r memory (after r memory (frameEnd r memory) k)
-            ∙ simp (runs, unrefused r memory runs (y .accepted runs) (top-used-in r (y .widths)) (frameEnd r memory) (y .placed runs) (frame-end-start r memory) unread k l)
+        free = unrefused-frame r memory (frameEnd r memory) y runs (frame-end-start r memory) unread
 
         again : ranOf memory (machineOf r (frameEnd r memory)) F ≡ record { done = F; refusal = 0; machine = machineOf r (frameEnd r memory) }
         again = free-ran (frameEnd r memory) F free ∙ ap (λ (x : Generator). record { done = F; refusal = 0; machine = machineOf r x }) (whole r memory (frameEnd r memory) y runs (frame-end-start r memory) .end unread)

@@ -5,7 +5,7 @@ use mathlib.Core.List.{List}
 use mathlib.Core.Path.{_≡_, refl, sym, ap, _∙_}
 use mathlib.Core.Logic.{_⊎_}
 use native.Mathlib.Omega.{arith}
-use borrow.Author.Tests.{lt-ltb, ltb-true, ne-eqb, eqb-true}
+use borrow.Author.Tests.{lt-ltb, ltb-true, ne-eqb, eqb-true, not-true}
 use lib.Dec.{ltb, eqb}
 use Rattle.base.proofs.Bools.{below, both-hold}
 use Rattle.registers.specs.declared.Registers.{Registers}
@@ -25,8 +25,9 @@ use Rattle.calls.proofs.Running.{ran-refused}
 -- the test is the position
 start-holds : (g : Generator) → isStart g ≡ true → AtStart g
 start-holds g e =
-    let both = both-hold (eqb (g .half .0) 0) (eqb (g .at .0) 0) e in
-    record { half = eqb-true (g .half .0) 0 (both .0); at = eqb-true (g .at .0) 0 (both .1) }
+    let first = both-hold (not (g .second)) (eqb (g .half .0) 0 && eqb (g .at .0) 0) e in
+    let both = both-hold (eqb (g .half .0) 0) (eqb (g .at .0) 0) (first .1) in
+    record { field = not-true (g .second) (first .0); half = eqb-true (g .half .0) 0 (both .0); at = eqb-true (g .at .0) 0 (both .1) }
 
 -- unhalted, it is exactly as many as were wanted
 pub part-whole : (r : Registers) (memory : List ℕ) (g : Generator) (count : ℕ) (w : Went) → Part r memory g count false w → Exactly r memory g count w

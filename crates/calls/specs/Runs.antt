@@ -8,7 +8,7 @@ use lib.Dec.{eqb}
 use Rattle.control.specs.Control.{running}
 use Rattle.units.specs.declared.Screen.{Screen}
 use Rattle.registers.specs.declared.Registers.{Registers}
-use Rattle.generator.specs.Dark.{frameTick, ticksToVDisplay, movedTo}
+use Rattle.generator.specs.Dark.{fieldTick, ticksToVDisplay, movedTo}
 use Rattle.generator.specs.Sound.{Sound}
 use Rattle.generator.specs.declared.Generator.{Generator}
 use Rattle.generator.specs.declared.Went.{Went}
@@ -29,8 +29,8 @@ ranIn r w = record { done = w .done; refusal = w .refusal; machine = machineOf r
 pub record Passes (s : Screen) (g : Generator) (due : ℕ) (p : Passed) : Type 0 where
   pub some : 0 < p .ticks
   pub most : p .ticks ≤ due
-  pub inside : frameTick s g + p .ticks ≤ ticksToVDisplay s
-  pub moved : p .next ≡ movedTo s g (frameTick s g + p .ticks)
+  pub inside : fieldTick s g + p .ticks ≤ ticksToVDisplay s
+  pub moved : p .next ≡ movedTo s g (fieldTick s g + p .ticks)
 
 -- up to so many ticks: as many as were done, or with a refused one all of them; fewer, unrefused, only to a frame's start
 pub record Part (r : Registers) (memory : List ℕ) (g : Generator) (count : ℕ) (halts : Bool) (w : Went) : Type 0 where

@@ -3,7 +3,8 @@ ghost use mathlib.Core.Path.{_≡_};
 ghost use mathlib.Core.Bool.{cond};
 ghost use Prim.Native.Nat.{_<_, min};
 ghost use Rattle.control.specs.Control.{running};
-ghost use Rattle.units.specs.Parameters.{screenOf, halvesToVDisplay};
+ghost use Rattle.units.specs.Parameters.{halvesToVDisplay};
+ghost use Rattle.generator.specs.Rows.{screen};
 ghost use Rattle.generator.specs.Sound.{Sound};
 ghost use Rattle.generator.specs.Stand.{Runs};
 ghost use Rattle.registers.specs.File.{fileOf, bare};
@@ -28,10 +29,11 @@ pub struct Ran {
     pub machine: Machine,
 }
 
-// The width and height of a picture.
+// The width and height of a picture; and, of an interlaced one, the pixels of a line's first half, 0 of any other.
 pub struct Size {
     pub width: u64,
     pub height: u64,
+    pub half: u64,
 }
 
 // The machine that every script begins with.
@@ -53,10 +55,11 @@ pub fn write(m: Machine, address: u32, value: u32) -> Written
 
 // The half lines before VDisplay, of a screen that runs.
 fn dark_halves(n: Numbers) -> u64
-    ensures halves { λ h. ⌜ h ≡ cond (running (n .control)) (halvesToVDisplay (screenOf (n .params))) 0 ⌝ }
+    ensures halves { λ h. ⌜ h ≡ cond (running (n .control)) (halvesToVDisplay (screen (bare n))) 0 ⌝ }
 {
     let params = n.params;
-    let s = units::screen_of(params);
+    let interlaced = control::is_interlaced(n.control);
+    let s = units::screen_of(params, interlaced);
     let halves = s.vpreequalise.0 + s.vsync.0 + s.vpostequalise.0 + s.vblank.0;
     let runs = control::is_running(n.control);
     if runs { halves } else { 0 }
@@ -78,11 +81,12 @@ struct Passed {
 // Ticks before VDisplay, as many as are due and no further than its first: nothing shows there, and only the place moves.
 fn pass_dark(n: Numbers, g: Generator, halves: u64, due: u32) -> Passed
     requires { ⌜ Runs (bare n) g ⌝ }
-    requires { ⌜ (halves ≡ halvesToVDisplay (screenOf (n .params))) × (g .half .0 < halves) × (0 < due) ⌝ }
-    ensures ticks { λ p. ⌜ Passes (screenOf (n .params)) g due p ⌝ }
+    requires { ⌜ (halves ≡ halvesToVDisplay (screen (bare n))) × (g .half .0 < halves) × (0 < due) ⌝ }
+    ensures ticks { λ p. ⌜ Passes (screen (bare n)) g due p ⌝ }
 {
     let params = n.params;
-    let s = units::screen_of(params);
+    let interlaced = control::is_interlaced(n.control);
+    let s = units::screen_of(params, interlaced);
     let line = s.linetime.0 / 2;
     let number = g.half.0 * line + g.at.0;
     let left = halves * line - number;
@@ -91,6 +95,7 @@ fn pass_dark(n: Numbers, g: Generator, halves: u64, due: u32) -> Passed
     let seen = g.seen;
     let sums = g.sums;
     let next = Generator {
+        second: g.second,
         half: HalfLines(to / line),
         at: ScreenUnits(to % line),
         seen,
@@ -160,8 +165,7 @@ fn from_start(
         Exactly (fileOf n (now (colours .entry)) (now (palette .entry)) (now (store .entry))) (now (memory .entry)) g count w ⌝ }
 {
     let params = n.params;
-    let screen = units::screen_of(params);
-    let totals = totals::frame_totals(n.control, screen);
+    let totals = totals::frame_totals(n.control, params);
     let frame = totals.ticks.0;
     if count as u64 <= frame {
         return steps(n, colours, palette, store, g, memory, count, false);
@@ -214,17 +218,22 @@ pub fn run(m: Machine, memory: &[u8], count: u32) -> Ran
     }
 }
 
-// The width and height of a machine's picture: four pixels to a unit of Display, and its displayed lines.
+// The width and height of a machine's picture: four pixels to a unit of Display, and its displayed lines; interlaced, one more, for two of them
+// are half lines.
 pub fn size_of(m: Machine) -> Size
     requires { ⌜ Sound (m .regs) (m .generator) ⌝ }
     ensures size { λ r. ⌜ r ≡ sizeOf m ⌝ }
 {
     let regs: Registers = m.regs;
     let params = regs.params;
-    let s = units::screen_of(params);
+    let interlaced = control::is_interlaced(regs.control);
+    let s = units::screen_of(params, interlaced);
+    let shown = lines::shown_in(params, interlaced, true);
+    let lines = units::displayed_lines(s);
     Size {
         width: 4 * s.display.0,
-        height: units::displayed_lines(s),
+        height: base::choose(interlaced, lines + 1, lines),
+        half: base::choose(interlaced, 4 * shown.lead, 0),
     }
 }
 

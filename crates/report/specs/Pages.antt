@@ -14,11 +14,11 @@ use Rattle.report.specs.declared.Page.{Page}
 
 -- before a script's first line
 abbrev pub blankPage : ℕ → Page
-blankPage form = record { form = form; lines = 0; waiting = 0; ticks = 0; last = silent; width = 0; height = 0 }
+blankPage form = record { form = form; lines = 0; waiting = 0; ticks = 0; last = silent; width = 0; height = 0; half = 0 }
 
 -- a page on which other bytes wait
 abbrev pub turned : Page → ℕ → Page
-turned p waiting = record { form = p .form; lines = p .lines; waiting = waiting; ticks = p .ticks; last = p .last; width = p .width; height = p .height }
+turned p waiting = record { form = p .form; lines = p .lines; waiting = waiting; ticks = p .ticks; last = p .last; width = p .width; height = p .height; half = p .half }
 
 -- what waits once there is room for a line more
 abbrev pub spaced : Page → ℕ
@@ -26,12 +26,12 @@ spaced p = cond (ltb (p .waiting) 32768) (p .waiting) 0
 
 -- the page at the next line
 abbrev pub nextLine : Page → Page
-nextLine p = record { form = p .form; lines = oneMore (p .lines); waiting = spaced p; ticks = p .ticks; last = p .last; width = p .width; height = p .height }
+nextLine p = record { form = p .form; lines = oneMore (p .lines); waiting = spaced p; ticks = p .ticks; last = p .last; width = p .width; height = p .height; half = p .half }
 
 -- and after one tick more
 abbrev pub counted : Page → ℕ → Signals → Page
 counted p waiting s =
-    record { form = p .form; lines = p .lines; waiting = waiting; ticks = oneMore (p .ticks); last = s; width = p .width; height = p .height }
+    record { form = p .form; lines = p .lines; waiting = waiting; ticks = oneMore (p .ticks); last = s; width = p .width; height = p .height; half = p .half }
 
 -- a command that may be refused: in answers `ok`, elsewhere nothing unless it is refused
 unfoldable pub verdictTexts : ℕ → ℕ → ℕ → List (List ℕ)

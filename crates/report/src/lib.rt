@@ -10,7 +10,7 @@ ghost use Rattle.report.specs.Pages.{blankPage, turned, spaced, nextLine
 use signals::Signals;
 
 // The form; the lines read; the bytes that wait to be written; the ticks so far and what the last one put out; the last picture's size, 0
-// before one.
+// before one, and the pixels of a line's first half where it is interlaced.
 pub struct Page {
     pub form: u32,
     pub lines: u64,
@@ -19,6 +19,7 @@ pub struct Page {
     pub last: Signals,
     pub width: u64,
     pub height: u64,
+    pub half: u64,
 }
 
 // Before a script's first line.
@@ -34,6 +35,7 @@ pub fn blank_page(form: u32) -> Page
         last,
         width: 0,
         height: 0,
+        half: 0,
     }
 }
 
@@ -59,6 +61,7 @@ fn count(p: Page, waiting: usize, s: Signals) -> Page
         last: s,
         width: p.width,
         height: p.height,
+        half: p.half,
     }
 }
 

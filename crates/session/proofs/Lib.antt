@@ -1,3 +1,4 @@
--- Laws of what a line does, and of what is shown of it.
+-- Laws of what a line does, of what is shown of it, and of an interlaced picture's file.
 mod Laws
 mod Showing
+pub mod Woven

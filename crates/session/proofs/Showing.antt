@@ -5,13 +5,15 @@ use mathlib.Core.List.{List}
 use mathlib.Core.Path.{_≡_, refl, ap, sym, _∙_}
 use lib.Dec.{eqb}
 use lib.ListN.{length, take, getD}
+use lib.Seq.{sets}
+use native.Mathlib.Numerals.{add-one}
 use native.Mathlib.Omega.{arith}
-use borrow.Author.Tests.{eq-eqb, ne-eqb}
+use borrow.Author.Tests.{eq-eqb, ne-eqb, eqb-false}
+use Rattle.base.proofs.Bools.{neither-holds}
 use Rattle.room.specs.Room.{putText, putEnd, putTexts, putEnds}
 use Rattle.room.proofs.Laying.{put-one}
 use Rattle.text.specs.Ascii.{ascii}
 use Rattle.text.specs.Lines.{countTexts}
-use Rattle.text.specs.Ppm.{ppmTexts}
 use Rattle.signals.specs.declared.Signals.{Signals}
 use Rattle.waveform.specs.Waveform.{headText}
 use Rattle.registers.specs.declared.Registers.{Registers}
@@ -19,6 +21,8 @@ use Rattle.generator.specs.Tick.{tickOf}
 use Rattle.generator.specs.declared.Generator.{Generator}
 use Rattle.generator.specs.declared.Ticked.{Ticked}
 use Rattle.machine.specs.declared.Machine.{Machine}
+use Rattle.weave.specs.declared.Weave.{Weave}
+use Rattle.weave.specs.Weave.{rowPut}
 use Rattle.calls.specs.Calls.{sizeOf}
 use Rattle.calls.specs.declared.Size.{Size}
 use Rattle.script.specs.Names.{kindOf, runsTicks, drawsPicture, onlyAsks}
@@ -30,7 +34,7 @@ use Rattle.report.specs.Notes.{faultTexts}
 use Rattle.report.specs.Pages.{blankPage, turned, spaced, nextLine}
 use Rattle.report.specs.declared.Page.{Page}
 use Rattle.questions.specs.Answers.{Shown, shownTexts, verdictShown, bytesShown, answerShown}
-use Rattle.session.specs.Shows.{openShown, closeShown, noPicture, ppmShown, isShown, refusedShown, stepShown, tickShown, ticksShown, ranTexts, runShown, sized, pictureShown, resultShown, commandShown, lineShown}
+use Rattle.session.specs.Shows.{openShown, closeShown, noPicture, headShown, pageWeave, wovenShown, ppmShown, isShown, refusedShown, stepShown, tickShown, ticksShown, ranTexts, runShown, sized, pictureShown, resultShown, commandShown, lineShown}
 
 -- a page and its bytes are what is shown
 abbrev pub Leaves : Shown → Page → List ℕ → Type 0
@@ -61,14 +65,32 @@ module _ (p : Page) (room : List ℕ) where
   unfolding closeShown
   close-other h page w = rw (ne-eqb (p .form) 1 h) (w, refl)
 
-module _ (p : Page) (room : List ℕ) where
-  pub ppm-drawn : noPicture p ≡ false → (after : List ℕ) → after ≡ putTexts room 0 (ppmTexts (p .width) (p .height)) → after ≡ ppmShown p room
-  unfolding ppmShown
-  ppm-drawn h after e = rw h e
+-- no row yet, and one more
+pub woven-none : (w : Weave) (picture room : List ℕ) → room ≡ wovenShown w picture room 0
+unfolding wovenShown
+woven-none w picture room = refl
 
-  pub ppm-none : noPicture p ≡ true → room ≡ ppmShown p room
+pub woven-next : (w : Weave) (picture room before after : List ℕ) (row : ℕ) → before ≡ wovenShown w picture room row → after ≡ sets before 0 (rowPut w picture row (length before)) → after ≡ wovenShown w picture room (row + 1)
+unfolding wovenShown
+woven-next w picture room before after row e f = f ∙ rw (add-one row, e)
+
+-- a picture drawn has a row
+pub ppm-high : (p : Page) → noPicture p ≡ false → 0 < p .height
+ppm-high p h = omega (arith, eqb-false (p .height) 0 (neither-holds (eqb (p .width) 0) (eqb (p .height) 0) h .1))
+
+module _ (p : Page) (picture room : List ℕ) where
+  pub ppm-none : noPicture p ≡ true → room ≡ ppmShown p picture room
   unfolding ppmShown
   ppm-none h = rw h refl
+
+  module _ (h : noPicture p ≡ false) (head : List ℕ) (e : head ≡ headShown p room) where
+    pub ppm-drawn : p .half ≡ 0 → head ≡ ppmShown p picture room
+    unfolding ppmShown
+    ppm-drawn z = rw (h, eq-eqb (p .half) 0 z) e
+
+    pub ppm-woven : (p .half ≡ 0 → ⊥) → (after : List ℕ) → after ≡ wovenShown (pageWeave p) picture head (p .height) → after ≡ ppmShown p picture room
+    unfolding ppmShown
+    ppm-woven z after f = rw (h, ne-eqb (p .half) 0 z) (f ∙ rw e)
 
 -- ---- ticks
 
@@ -120,9 +142,9 @@ module _ (p : Page) (room : List ℕ) (done refusal end waiting : ℕ) (page : P
 
 -- ---- commands
 
-pub picture-shown : (p : Page) (m : Machine) (picture room : List ℕ) (refusal count : ℕ) (size : Size) → size ≡ sizeOf m → (width : ℕ) → width ≡ cond (eqb refusal 0) (size .width) (p .width) → (height : ℕ) → height ≡ cond (eqb refusal 0) (size .height) (p .height) → (part : List ℕ) → part ≡ take count picture → pictureShown p m picture room refusal count ≡ bytesShown (sized p width height) room refusal part
+pub picture-shown : (p : Page) (m : Machine) (picture room : List ℕ) (refusal count : ℕ) (size : Size) → size ≡ sizeOf m → (width : ℕ) → width ≡ cond (eqb refusal 0) (size .width) (p .width) → (height : ℕ) → height ≡ cond (eqb refusal 0) (size .height) (p .height) → (half : ℕ) → half ≡ cond (eqb refusal 0) (size .half) (p .half) → (part : List ℕ) → part ≡ take count picture → pictureShown p m picture room refusal count ≡ bytesShown (sized p width height half) room refusal part
 unfolding pictureShown
-picture-shown p m picture room refusal count size e width w height h part f = rw (w, h, e, f)
+picture-shown p m picture room refusal count size e width w height h half k part f = rw (w, h, k, e, f)
 
 module _ (p : Page) (c : Command) (d : Done) (picture room : List ℕ) (k : ℕ) (e : k ≡ kindOf (c .name)) where
   pub result-run : k ≡ runsTicks → resultShown p c d picture room ≡ runShown p room (d .ticks) (d .refusal)

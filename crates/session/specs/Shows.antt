@@ -1,9 +1,12 @@
 -- What is shown of a script (docs/SCRIPT.md), in each form: the page, and the bytes that wait on it. Assumes nothing.
-use Prim.Native.Nat.{ℕ, zero, suc}
+use Prim.Native.Nat.{ℕ, zero, suc, _*_}
 use mathlib.Core.Bool.{Bool, cond, _||_, _&&_}
-use mathlib.Core.List.{List, [], _∷_}
+use mathlib.Core.List.{List, [], _∷_, _++_}
+use mathlib.Core.Path.{_≡_}
 use lib.Dec.{eqb}
 use lib.ListN.{length, take, getD}
+use lib.Seq.{sets}
+use Rattle.base.specs.Count.{run}
 use Rattle.room.specs.Room.{putTexts, putEnds}
 use Rattle.text.specs.Ascii.{ascii}
 use Rattle.text.specs.Lines.{countTexts}
@@ -15,7 +18,10 @@ use Rattle.generator.specs.Tick.{tickOf}
 use Rattle.generator.specs.declared.Generator.{Generator}
 use Rattle.generator.specs.declared.Ticked.{Ticked}
 use Rattle.machine.specs.declared.Machine.{Machine}
+use Rattle.weave.specs.declared.Weave.{Weave}
+use Rattle.weave.specs.Weave.{byteAt, rowPut}
 use Rattle.calls.specs.Calls.{sizeOf}
+use Rattle.calls.specs.Woven.{weaveOf, Woven}
 use Rattle.script.specs.Names.{kindOf, runsTicks, drawsPicture, onlyAsks}
 use Rattle.script.specs.declared.command.Command.{Command}
 use Rattle.script.specs.Script.{skipped, lineCommand, ticksOf}
@@ -41,8 +47,29 @@ closeShown p room =
 abbrev pub noPicture : Page → Bool
 noPicture p = eqb (p .width) 0 || eqb (p .height) 0
 
-unfoldable pub ppmShown : Page → List ℕ → List ℕ
-ppmShown p room = cond (noPicture p) room (putTexts room 0 (ppmTexts (p .width) (p .height)))
+abbrev pub headShown : Page → List ℕ → List ℕ
+headShown p room = putTexts room 0 (ppmTexts (p .width) (p .height))
+
+-- the rows of an interlaced one from the top, each put over the one before it
+abbrev pub pageWeave : Page → Weave
+pageWeave p = weaveOf (record { width = p .width; height = p .height; half = p .half })
+
+unfoldable pub wovenShown : Weave → List ℕ → List ℕ → ℕ → List ℕ
+wovenShown w picture room zero = room
+wovenShown w picture room (suc row) =
+    sets (wovenShown w picture room row) 0 (rowPut w picture row (length (wovenShown w picture room row)))
+
+-- and the same one after the other, each where a room has so many bytes
+unfoldable pub rowsJoined : Weave → List ℕ → ℕ → ℕ → List ℕ
+rowsJoined w picture size zero = []
+rowsJoined w picture size (suc row) = rowsJoined w picture size row ++ rowPut w picture row size
+
+-- WHAT IS SHOWN OF THE LAST PICTURE: its head, and over it the rows of an interlaced one; those of any other stand in the picture as they are
+unfoldable pub ppmShown : Page → List ℕ → List ℕ → List ℕ
+ppmShown p picture room =
+    cond (noPicture p) room
+    (cond (eqb (p .half) 0) (headShown p room)
+    (wovenShown (pageWeave p) picture (headShown p room) (p .height)))
 
 -- ---- ticks
 
@@ -89,18 +116,25 @@ runShown p room done refusal =
 -- ---- commands
 
 -- a page with a picture's size
-abbrev pub sized : Page → ℕ → ℕ → Page
-sized p width height =
-    record { form = p .form; lines = p .lines; waiting = p .waiting; ticks = p .ticks; last = p .last; width = width; height = height }
+abbrev pub sized : Page → ℕ → ℕ → ℕ → Page
+sized p width height half =
+    record { form = p .form; lines = p .lines; waiting = p .waiting; ticks = p .ticks; last = p .last; width = width; height = height; half = half }
 
 -- a picture that is not refused has its size kept
 abbrev pub drawnPage : Page → Machine → ℕ → Page
 drawnPage p m refusal =
-    sized p (cond (eqb refusal 0) (sizeOf m .width) (p .width)) (cond (eqb refusal 0) (sizeOf m .height) (p .height))
+    sized p (cond (eqb refusal 0) (sizeOf m .width) (p .width))
+    (cond (eqb refusal 0) (sizeOf m .height) (p .height))
+    (cond (eqb refusal 0) (sizeOf m .half) (p .half))
 
 -- and its bytes are shown
 unfoldable pub pictureShown : Page → Machine → List ℕ → List ℕ → ℕ → ℕ → Shown
 pictureShown p m picture room refusal count = bytesShown (drawnPage p m refusal) room refusal (take count picture)
+
+-- the file of an interlaced picture that a machine has drawn: woven as a tube shows it, and the rows that are put are all its bytes in order
+pub record InterlacedFile (p : Page) (m : Machine) : Type 0 where
+  pub woven : Woven (m .regs) (pageWeave (drawnPage p m 0))
+  pub rows : (picture : List ℕ) → rowsJoined (pageWeave (drawnPage p m 0)) picture 65536 (sizeOf m .height) ≡ run (byteAt (pageWeave (drawnPage p m 0)) picture) 0 (3 * sizeOf m .height * sizeOf m .width)
 
 -- WHAT IS SHOWN OF A COMMAND whose ticks are not shown, by what it has done
 unfoldable pub resultShown : Page → Command → Done → List ℕ → List ℕ → Shown

@@ -1,12 +1,12 @@
 // A whole script (docs/SCRIPT.md), from standard input, in one of three forms: answers, a waveform of the ticks, or the last picture.
-ghost use Prim.Native.Nat.{_≤_};
+ghost use Prim.Native.Nat.{_≤_, _<_};
 ghost use mathlib.Core.Path.{_≡_};
 ghost use lib.ListN.{length};
 ghost use Rattle.generator.specs.Sound.{Sound};
 ghost use Rattle.changes.specs.LentMemory.{memoryAfter};
 ghost use Rattle.changes.specs.Changes.{runDone, doneOf, pictureAfter};
 ghost use Rattle.session.specs.Session.{firstDone, lineDone, lineMemory, linePicture};
-ghost use Rattle.session.specs.Shows.{openShown, closeShown, ppmShown, isShown, tickShown, ticksShown, runShown, pictureShown, resultShown, commandShown, lineShown};
+ghost use Rattle.session.specs.Shows.{openShown, closeShown, pageWeave, wovenShown, ppmShown, isShown, tickShown, ticksShown, runShown, pictureShown, resultShown, commandShown, lineShown};
 use changes::Done;
 use input::LINE;
 use machine::Machine;
@@ -17,6 +17,7 @@ use report::WAVE;
 use script::command::Command;
 use script::names;
 use text::ppm;
+use weave::Weave;
 
 // What the last command has done, the machine and the memory lent with it; and what has been shown.
 struct Desk {
@@ -120,6 +121,7 @@ fn show_picture(
     let size = calls::size_of(m);
     page.width = base::choose(refusal == 0, size.width, page.width);
     page.height = base::choose(refusal == 0, size.height, page.height);
+    page.half = base::choose(refusal == 0, size.half, page.half);
     let bytes = room::lent(picture, length as usize);
     questions::show_bytes(page, out, refusal, bytes)
 }
@@ -233,9 +235,28 @@ fn close(p: Page, out: &mut [u8; ROOM]) -> Page
     report::write(p, out)
 }
 
-// A picture drawn, as a PPM on standard output; or a line on standard error.
+// An interlaced picture's rows from the top, each put over the one before it and written.
+fn write_woven(p: Page, picture: &[u8; PICTURE_BYTES], out: &mut [u8; ROOM])
+    requires { ⌜ 0 < p .height ⌝ }
+    ensures bytes { λ _. ⌜ now (out .exit) ≡ wovenShown (pageWeave p) (now (picture .entry)) (now (out .entry)) (p .height) ⌝ }
+{
+    let w = Weave {
+        width: p.width,
+        lines: p.height - 1,
+        half: p.half,
+        late: false,
+    };
+    let mut row: u64 = 0;
+    while row < p.height {
+        let count = weave::put_row(out, picture, w, row);
+        io::write_all(1, room::lent(out, count));
+        row += 1;
+    }
+}
+
+// A picture drawn, as a PPM on standard output, where an interlaced one is woven; or a line on standard error.
 fn write_picture(p: Page, picture: &[u8; PICTURE_BYTES], out: &mut [u8; ROOM])
-    ensures bytes { λ _. ⌜ now (out .exit) ≡ ppmShown p (now (out .entry)) ⌝ }
+    ensures bytes { λ _. ⌜ now (out .exit) ≡ ppmShown p (now (picture .entry)) (now (out .entry)) ⌝ }
 {
     if (p.width == 0) | (p.height == 0) {
         io::write_all(2, b"draw: no picture was drawn\n");
@@ -243,9 +264,13 @@ fn write_picture(p: Page, picture: &[u8; PICTURE_BYTES], out: &mut [u8; ROOM])
     }
     let head = ppm::put_ppm(out, 0, p.width, p.height);
     io::write_all(1, room::lent(out, head));
-    let pixels = base::product(p.width, p.height);
-    let size = picture::bytes_for(pixels);
-    io::write_all(1, room::lent(picture, size as usize));
+    if p.half == 0 {
+        let pixels = base::product(p.width, p.height);
+        let size = picture::bytes_for(pixels);
+        io::write_all(1, room::lent(picture, size as usize));
+        return;
+    }
+    write_woven(p, picture, out);
 }
 
 // Before a script's first line.

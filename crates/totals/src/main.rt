@@ -2,7 +2,7 @@
 use screen::totals;
 use screen::totals::Totals;
 
-// Control A at 8 bits a pixel, increment 1, transfers on.
+// Control A at 8 bits a pixel, increment 1, transfers on, not interlaced.
 const EIGHT_BITS: u32 = 0x300000;
 
 fn line(name: &[u8], n: u64) {
@@ -30,8 +30,7 @@ fn answer(bytes: &[u8]) {
     let sheet = sheet::read(bytes);
     if sheet.refusal == 0 {
         let values = sheet.values;
-        let s = units::screen_of(values);
-        shown(totals::frame_totals(EIGHT_BITS, s));
+        shown(totals::frame_totals(EIGHT_BITS, values));
         return;
     }
     refused(sheet.refusal);

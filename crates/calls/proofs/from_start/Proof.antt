@@ -3,7 +3,7 @@ use Prim.Native.Nat.{_-_, _%_, _≤_, _<_}
 use mathlib.Core.Path.{_≡_, sym, ap, subst, _∙_}
 use native.Mathlib.Nat.{mod-lt}
 use native.Mathlib.Omega.{arith}
-use Rattle.screen.specs.Totals.{frameTicks, totalsOf}
+use Rattle.screen.specs.Totals.{frameTicks}
 use Rattle.screen.specs.declared.totals.Totals.{Totals}
 use Rattle.screen.proofs.limits.Laws.{unrefused}
 use Rattle.screen.proofs.totals.Laws.{totals-counted}
@@ -12,7 +12,7 @@ use Rattle.registers.specs.File.{fileOf}
 use Rattle.registers.specs.declared.Registers.{Registers}
 use Rattle.generator.specs.Rows.{screen}
 use Rattle.frame.specs.Frame.{AtStart}
-use Rattle.frame.proofs.Place.{ticks-some}
+use Rattle.frame.proofs.Demand.{frame-ticks-some}
 use Rattle.calls.specs.Runs.{Exactly}
 use Rattle.calls.proofs.Parts.{part-whole}
 use Rattle.calls.proofs.Frames.{refused-by, passed-by}
@@ -20,7 +20,7 @@ use Rattle.calls.proofs.from_start.Statement.{statement}
 use Rattle.calls.proofs.from_start.Tie as tie
 
 abbrev start : tie.After-frame-totals → tie.Start
-start c = c .before .before .before .before
+start c = c .before .before .before
 
 abbrev r : tie.Start → Registers
 r s = fileOf (s .args .n) (s .args .colours .now) (s .args .palette .now) (s .args .store .now)
@@ -31,11 +31,10 @@ ticks-are c =
     let s = start c in
     ap (λ (t : Totals). t .ticks .0)
     (c .frame-totals .ensures
-    ∙ ap (totalsOf (s .args .n .control)) (c .before .screen-of .ensures)
-    ∙ sym (totals-counted (s .args .n .control) (screen (r s)) (unrefused (s .args .n .control) (screen (r s)) (s .pre .sound .accepted (s .pre .runs)))))
+    ∙ sym (totals-counted (s .args .n .control) (s .args .n .params) (unrefused (s .args .n .control) (screen (r s)) (s .pre .sound .accepted (s .pre .runs)))))
 
 some : (c : tie.After-frame-totals) → 0 < c .frame-totals .result .ticks .0
-some c = let s = start c in rw (ticks-are c) (ticks-some (s .args .n .control) (screen (r s)) (s .pre .sound .accepted (s .pre .runs)))
+some c = let s = start c in rw (ticks-are c) (frame-ticks-some (r s) (s .pre .sound .accepted (s .pre .runs)))
 
 -- a count above the frame's ticks is above 0, so the generator stands at a frame's start
 module _ (c : tie.Else1) where
@@ -53,7 +52,6 @@ pub from-start-spec : {M : Type 1} → statement M
 from-start-spec =
     tie.close
     (tie.spec
-    (λ c κs. tt)
     (λ c κs. tt)
     (λ c κs. start (c .before) .pre .sound)
     (λ c. part-whole _ _ _ _ _ (c .steps .ensures))
