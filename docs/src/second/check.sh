@@ -38,6 +38,9 @@ held totals crates/totals/stdin crates/totals/stdout sheet
 same crates/trace/stdout "$work/trace.out"
 "$work/second" <"$here/crates/draw/stdin" | "$work/ppm" "$here/crates/draw/stdin" >"$work/draw.out" || :
 same crates/draw/stdout "$work/draw.out"
+# An interlaced picture, woven of its two fields.
+"$work/second" <"$source/woven.txt" | "$work/ppm" "$source/woven.txt" >"$work/woven.out" || :
+same docs/src/second/woven-expected.ppm "$work/woven.out"
 # The bench screen's rows, reasoned by hand, are the stored script.
 if ! cmp -s "$here/crates/bench/stdin" "$source/bench-screen.txt"; then
     echo "check: crates/bench/stdin is not docs/src/second/bench-screen.txt" >&2

@@ -3,11 +3,13 @@
 // Build:   rustc --edition 2021 -O -o generate generate.rs
 // Use:     generate SEED > script            a script that asks much of the machine
 //          generate damaged SEED > script    no script at all, or a spoilt one (damaged.rs)
+//          generate woven SEED > script      a shorter one that draws at least one picture
 //
 // SEED is a whole number; one seed gives one script, always the same. A script is
-// a few hundred lines. Most of its screens are accepted, for they are put together
-// within the limits of document 01, "Refusal numbers"; the others miss a limit by
-// one step. Between the commands stand lines of every fault that docs/SCRIPT.md names.
+// a few hundred lines. About half its screens are interlaced. Most are accepted, for
+// they are put together within the limits of document 01, "Refusal numbers", and of
+// document 02, Q-4; the others miss a limit by one step. Between the commands stand
+// lines of every fault that docs/SCRIPT.md names.
 //
 // The generator holds no second copy of the rules: it keeps the screen it wrote
 // last, the control it believes in force and, where nothing can have been refused,
@@ -80,11 +82,15 @@ const TRANSFER_DELAY: usize = 13;
 type Screen = [u32; 14];
 
 const BENCH_SCREEN: Screen = [1, 3, 2, 1, 4, 1, 1, 1, 2, 4, 14, 0, 1, 1];
+const INTERLACED_BENCH_SCREEN: Screen = [1, 3, 6, 1, 4, 1, 1, 1, 1, 3, 14, 0, 2, 1];
 
 const SHIFT_PERIODS: [u32; 4] = [16, 8, 4, 2];
 const INCREMENTS: [u64; 4] = [1, 256, 512, 1024];
+const INTERLACED_INCREMENTS: [u64; 4] = [1, 2, 512, 1024];
+const OFFSETS: [u64; 4] = [1, 1, 256, 512];
 
 const RUN: u32 = 1;
+const INTERLACED: u32 = 1 << 1;
 const PLAIN: u32 = 1 << 4;
 const FORCED_BLANK: u32 = 1 << 10;
 const INCREMENT_PLACE: u32 = 12;
@@ -92,52 +98,137 @@ const TRANSFERS_OFF: u32 = 1 << 14;
 const DEPTH_PLACE: u32 = 20;
 const CURSOR_OFF: u32 = 1 << 23;
 const HELD: [u32; 6] = [2, 5, 6, 7, 8, 9];
-const REFUSED: [u32; 9] = [1, 3, 11, 15, 16, 17, 18, 19, 22];
+const REFUSED: [u32; 8] = [3, 11, 15, 16, 17, 18, 19, 22];
 
 fn row_length(s: &Screen) -> u64 {
     u64::from(s[MEM_INIT] + s[TRANSFER_DELAY])
 }
 
+fn is_laced(control: u32) -> bool {
+    control & INTERLACED != 0
+}
+
+fn increment_of(control: u32) -> u64 {
+    let code = ((control >> INCREMENT_PLACE) & 3) as usize;
+    if is_laced(control) {
+        INTERLACED_INCREMENTS[code]
+    } else {
+        INCREMENTS[code]
+    }
+}
+
+fn offset_of(control: u32) -> u64 {
+    OFFSETS[((control >> INCREMENT_PLACE) & 3) as usize]
+}
+
+/// What an address is divided by to give its row.
+fn row_unit(control: u32) -> u64 {
+    if is_laced(control) {
+        offset_of(control)
+    } else {
+        increment_of(control)
+    }
+}
+
+/// The lines of a field; interlaced, one of them is a half.
 fn lines(s: &Screen) -> u64 {
-    u64::from(s[V_DISPLAY] / 2)
+    u64::from(s[V_DISPLAY]).div_ceil(2)
 }
 
-fn visible_ticks(s: &Screen) -> u64 {
-    u64::from(s[DISPLAY]) * lines(s)
+fn flyback_half_lines(s: &Screen) -> u32 {
+    s[V_PRE] + s[V_SYNC] + s[V_POST] + s[V_BLANK]
 }
 
-fn picture_length(s: &Screen) -> u64 {
-    visible_ticks(s) * 12
+/// One field's ticks in the frame: its first, its first of VDisplay, the first past
+/// it, and its visible ones.
+struct Field {
+    begin: u64,
+    display: u64,
+    end: u64,
+    visible: Vec<u64>,
 }
 
-fn flyback_ticks(s: &Screen) -> u64 {
-    let half_lines = s[V_PRE] + s[V_SYNC] + s[V_POST] + s[V_BLANK];
-    u64::from(half_lines) * u64::from(s[LINE_TIME] / 2)
+impl Field {
+    /// The visible tick v, or the first of VDisplay where there is none.
+    fn seen(&self, v: u64) -> u64 {
+        self.visible.get(v as usize).copied().unwrap_or(self.display)
+    }
+
+    fn shown(&self) -> u64 {
+        self.visible.len() as u64
+    }
+
+    /// The visible ticks v after which no visible tick follows at once.
+    fn line_ends(&self) -> Vec<u64> {
+        let last = |v: &usize| self.visible.get(v + 1) != Some(&(self.visible[*v] + 1));
+        (0..self.visible.len()).filter(last).map(|v| v as u64).collect()
+    }
 }
 
-fn frame_ticks(s: &Screen) -> u64 {
-    flyback_ticks(s) + lines(s) * u64::from(s[LINE_TIME])
-}
-
-/// The tick of the frame at which the visible tick v happens.
-fn tick_of(s: &Screen, v: u64) -> u64 {
-    let display = u64::from(s[DISPLAY]);
+/// The fields of a frame: one, or two when interlaced.
+fn fields(s: &Screen, laced: bool) -> Vec<Field> {
+    let half = u64::from(s[LINE_TIME] / 2);
     let before = u64::from(2 * s[HALF_SYNC] + s[BACK_PORCH]);
-    flyback_ticks(s) + v / display * u64::from(s[LINE_TIME]) + before + v % display
+    let columns = before..before + u64::from(s[DISPLAY]);
+    let flyback = u64::from(flyback_half_lines(s));
+    let all = flyback + u64::from(s[V_DISPLAY]);
+    let mut found = Vec::new();
+    for number in 0..1 + u64::from(laced) {
+        let first = number * all + flyback;
+        let mut visible = Vec::new();
+        for half_line in first..first + u64::from(s[V_DISPLAY]) {
+            // Interlaced, halves are told by the frame's count of half lines.
+            let count = if laced { half_line } else { half_line - first };
+            let left = count % 2 * half;
+            let shown = columns.start.max(left)..columns.end.min(left + half);
+            visible.extend(shown.map(|unit| half_line * half + unit - left));
+        }
+        found.push(Field {
+            begin: number * all * half,
+            display: first * half,
+            end: (number + 1) * all * half,
+            visible,
+        });
+    }
+    found
+}
+
+fn visible_ticks(s: &Screen, laced: bool) -> u64 {
+    fields(s, laced).iter().map(Field::shown).sum()
+}
+
+fn picture_length(s: &Screen, laced: bool) -> u64 {
+    visible_ticks(s, laced) * 12
+}
+
+fn frame_ticks(s: &Screen, laced: bool) -> u64 {
+    let half_lines = u64::from(flyback_half_lines(s) + s[V_DISPLAY]);
+    half_lines * u64::from(s[LINE_TIME] / 2) * (1 + u64::from(laced))
+}
+
+/// How many rows a field transfers, at most.
+fn rows(s: &Screen, laced: bool) -> u64 {
+    let most = fields(s, laced).iter().map(Field::shown).max();
+    most.unwrap_or(0).div_ceil(row_length(s).max(1))
 }
 
 /// How many bytes of picture memory one frame reads, up to its farthest.
-fn memory_needed(s: &Screen, bits: u64, top: u64, increment: u64) -> u64 {
+fn memory_needed(s: &Screen, control: u32, top: u64) -> u64 {
     let row = row_length(s);
-    let all = visible_ticks(s);
+    let bits = 1u64 << ((control >> DEPTH_PLACE) & 3);
     let mut farthest = 0;
-    let mut k = 0;
-    while k * row < all {
-        let address = (top + k * increment) & 0xFF_FFFF;
-        let ticks = row.min(all - k * row);
-        let pixels = address / increment * row * 4 + ticks * 4;
-        farthest = farthest.max((pixels * bits + 7) / 8);
-        k += 1;
+    let mut first = top;
+    for field in fields(s, is_laced(control)) {
+        let all = field.shown();
+        let mut k = 0;
+        while k * row < all {
+            let address = (first + k * increment_of(control)) & 0xFF_FFFF;
+            let ticks = row.min(all - k * row);
+            let pixels = address / row_unit(control) * row * 4 + ticks * 4;
+            farthest = farthest.max((pixels * bits + 7) / 8);
+            k += 1;
+        }
+        first = top + offset_of(control);
     }
     farthest
 }
@@ -165,8 +256,8 @@ enum Shape {
     Long,
 }
 
-/// One accepted screen, within the limits of refusals 10 to 17.
-fn draw_screen(c: &mut Chance, period: u32, shape: Shape) -> Screen {
+/// One accepted screen, within the limits of refusals 10 to 18.
+fn draw_screen(c: &mut Chance, period: u32, shape: Shape, laced: bool) -> Screen {
     let mut s: Screen = [0; 14];
     let long = shape == Shape::Long;
     let tower = shape == Shape::Tower;
@@ -194,9 +285,11 @@ fn draw_screen(c: &mut Chance, period: u32, shape: Shape) -> Screen {
     let before = 2 * s[HALF_SYNC] + s[BACK_PORCH];
     let mut least = (2 * (before + s[SHORT_DISPLAY]) + 2).max(before + s[DISPLAY] + 1);
     least += least % 2;
-    s[LINE_TIME] = match c.small(4) {
+    s[LINE_TIME] = match c.small(5) {
         0 => least,
         1 => least + 2 * c.small(6),
+        // Display ends about half a line.
+        3 => least.max(2 * (before + s[DISPLAY]) - 2 + 2 * c.small(3)),
         // Display ends at half a line or before it.
         2 => least.max(2 * (before + s[DISPLAY])) + 2 * c.small(4),
         _ => least + 2 * c.small(20),
@@ -230,9 +323,28 @@ fn draw_screen(c: &mut Chance, period: u32, shape: Shape) -> Screen {
         s[V_POST] = 1 + c.small(3);
         s[V_BLANK] = 2;
     }
+    if laced {
+        // VDisplay odd, one more than an even number or one less; often 1 or 3.
+        s[V_DISPLAY] = match c.small(8) {
+            0 | 1 if shape == Shape::Small => 1,
+            2 if shape == Shape::Small => 3,
+            3 | 4 => s[V_DISPLAY] - 1,
+            _ => s[V_DISPLAY] + 1,
+        };
+        s[V_BLANK] -= c.small(2);
+        if c.in_a_hundred(50) {
+            // A short flyback, for a frame has two.
+            let order = c.one_of(&[[1, 2, 3], [3, 1, 2], [2, 1, 4], [4, 3, 1], [1, 4, 2], [3, 4, 2]]);
+            [s[V_PRE], s[V_SYNC], s[V_POST]] = order;
+            s[V_BLANK] = 1 + c.small(4);
+        }
+        if flyback_half_lines(&s) % 2 != 0 {
+            s[V_BLANK] += 1;
+        }
+    }
 
     let display = s[DISPLAY];
-    let all = visible_ticks(&s) as u32;
+    let all = fields(&s, laced)[c.below(1 + u64::from(laced)) as usize].shown() as u32;
     let wanted = match c.small(8) {
         0 | 1 => 2 + c.small(6),
         2 => 2 + c.small(display),
@@ -256,14 +368,14 @@ fn draw_screen(c: &mut Chance, period: u32, shape: Shape) -> Screen {
     s
 }
 
-fn screen(c: &mut Chance, period: u32, shape: Shape) -> Screen {
-    let mut s = draw_screen(c, period, shape);
+fn screen(c: &mut Chance, period: u32, shape: Shape, laced: bool) -> Screen {
+    let mut s = draw_screen(c, period, shape, laced);
     if c.in_a_hundred(75) {
         for _ in 0..2000 {
             if all_differ(&s) {
                 break;
             }
-            s = draw_screen(c, period, shape);
+            s = draw_screen(c, period, shape, laced);
         }
     }
     s
@@ -309,8 +421,27 @@ impl Script {
         1 << self.depth_code()
     }
 
-    fn increment(&self) -> u64 {
-        INCREMENTS[((self.control >> INCREMENT_PLACE) & 3) as usize]
+    fn laced(&self) -> bool {
+        is_laced(self.control)
+    }
+
+    fn fields(&self) -> Vec<Field> {
+        fields(&self.screen, self.laced())
+    }
+
+    /// One of the frame's fields.
+    fn some_field(&mut self) -> Field {
+        let mut all = self.fields();
+        let number = self.c.below(all.len() as u64) as usize;
+        all.swap_remove(number)
+    }
+
+    fn frame_ticks(&self) -> u64 {
+        frame_ticks(&self.screen, self.laced())
+    }
+
+    fn needed(&self) -> u64 {
+        memory_needed(&self.screen, self.control, u64::from(self.top))
     }
 
     // ----- lines -----------------------------------------------------------
@@ -412,6 +543,10 @@ impl Script {
 
     fn write_control(&mut self, control: u32) {
         self.write(0x060, control);
+        if control & RUN & self.control != 0 && (control ^ self.control) & INTERLACED != 0 {
+            // Refused by 4.
+            return;
+        }
         if control & RUN != 0 && !self.running() {
             self.position = Some(0);
         }
@@ -428,13 +563,19 @@ impl Script {
             if self.c.in_a_hundred(20) {
                 control ^= 1 << self.c.one_of(&HELD);
             }
+            if self.c.in_a_hundred(10) {
+                control ^= INTERLACED;
+            }
             self.write_control(control);
         }
     }
 
     /// A control value that runs at a depth, with all its other bits by chance.
-    fn running_control(&mut self, depth: u32) -> u32 {
+    fn running_control(&mut self, depth: u32, laced: bool) -> u32 {
         let mut control = RUN | (depth << DEPTH_PLACE);
+        if laced {
+            control |= INTERLACED;
+        }
         control |= self.c.small(4) << INCREMENT_PLACE;
         if self.c.in_a_hundred(50) {
             control |= PLAIN;
@@ -498,7 +639,7 @@ impl Script {
                 9 => (BROAD_PULSE, half - 1 + self.c.small(2)),
                 10 if self.c.in_a_hundred(50) => (DISPLAY, s[DISPLAY] + period / 2),
                 10 => (DISPLAY, s[DISPLAY] + 1 + self.c.small(period - 1)),
-                11 => (V_BLANK, s[V_BLANK] + 1),
+                11 => (self.c.one_of(&[V_BLANK, V_BLANK, V_PRE, V_SYNC]), s[V_BLANK] + 1),
                 12 => (V_DISPLAY, s[V_DISPLAY] - 1),
                 13 if self.c.in_a_hundred(50) => {
                     // BackPorch no hindrance: ShortDisplay below TransferDelay, or at it.
@@ -527,6 +668,39 @@ impl Script {
         }
     }
 
+    /// Counts of half lines odd and even in both formats, alone and beside the refusals
+    /// before them: 16, 17 and 18.
+    fn odd_and_even(&mut self, control: u32) {
+        let s = self.screen;
+        for _ in 0..5 {
+            let mut touched = Vec::new();
+            for place in [V_PRE, V_SYNC, V_POST, V_BLANK, V_DISPLAY] {
+                if self.c.in_a_hundred(30) {
+                    self.write(0x021 + place as u32, s[place] + 1);
+                    touched.push(place);
+                }
+            }
+            if self.c.in_a_hundred(25) {
+                self.write(0x021 + TRANSFER_DELAY as u32, s[BACK_PORCH] - 1);
+                touched.push(TRANSFER_DELAY);
+            }
+            if self.c.in_a_hundred(8) {
+                self.write(0x021 + DISPLAY as u32, s[DISPLAY] + 1);
+                touched.push(DISPLAY);
+            }
+            let control = if self.c.in_a_hundred(40) { control ^ INTERLACED } else { control };
+            self.write(0x060, control);
+            if self.c.in_a_hundred(30) {
+                self.command("tick", &[]);
+            }
+            self.write(0x060, control & !RUN);
+            for place in touched {
+                self.write(0x021 + place as u32, s[place]);
+            }
+        }
+        self.control = control & !RUN;
+    }
+
     /// Single parameters at the limits of refusal 10 and one past them, a start each.
     fn limits_of_ten(&mut self, control: u32) {
         let s = self.screen;
@@ -546,14 +720,15 @@ impl Script {
 
     /// A top of screen for the control, within a memory that can be lent.
     fn choose_top(&mut self, control: u32) -> (u32, u64) {
-        let increment = INCREMENTS[((control >> INCREMENT_PLACE) & 3) as usize];
-        let bits = 1u64 << ((control >> DEPTH_PLACE) & 3);
+        // Interlaced, an increment of 2 goes with rows one address apart.
+        let increment = increment_of(control);
         let s = self.screen;
-        let rows = visible_ticks(&s).div_ceil(row_length(&s));
+        let rows = rows(&s, is_laced(control));
         let choices = [
             // Rolls over within the frame, where the memory allows it.
             0x100_0000 - self.c.below(rows * increment + 1).clamp(1, 0xFF_FFFF),
-            0x100_0000 - 1 - self.c.below(increment),
+            // The second field's first address rolls over, or the next row.
+            0x100_0000 - 1 - self.c.below(row_unit(control)),
             self.c.below(increment * 40),
             self.c.below(increment * 4),
             7,
@@ -561,12 +736,12 @@ impl Script {
         ];
         let first = self.c.below(4) as usize;
         for &top in &choices[first..] {
-            let needed = memory_needed(&s, bits, top, increment);
+            let needed = memory_needed(&s, control, top);
             if needed <= 1_048_576 {
                 return (top as u32, needed);
             }
         }
-        (0, memory_needed(&s, bits, 0, increment).min(1_048_576))
+        (0, memory_needed(&s, control, 0).min(1_048_576))
     }
 
     fn lend_memory(&mut self, needed: u64) {
@@ -737,7 +912,15 @@ impl Script {
             let near = self.c.below(6) as i32 - 3;
             let (x, y) = if tower { (near, far) } else { (far, near) };
             self.write(0x0C7, ((x as u32 & 0xFFF) << 12) | (y as u32 & 0xFFF));
-            self.run(frame_ticks(&self.screen));
+            if self.laced() {
+                // The first field's sums too.
+                let end = self.fields()[0].end;
+                self.run(end);
+                self.nine();
+                self.run(end);
+            } else {
+                self.run(self.frame_ticks());
+            }
             self.nine();
         }
     }
@@ -749,13 +932,11 @@ impl Script {
         if self.control & (FORCED_BLANK | TRANSFERS_OFF) != 0 {
             return true;
         }
-        let needed =
-            memory_needed(&self.screen, self.bits(), u64::from(self.top), self.increment());
-        needed <= u64::from(self.memory)
+        self.needed() <= u64::from(self.memory)
     }
 
     fn went(&mut self, ticks: u64) {
-        let frame = frame_ticks(&self.screen);
+        let frame = self.frame_ticks();
         self.position = match self.position {
             Some(position) if self.running() && self.safe() && frame > 0 => {
                 Some((position + ticks) % frame)
@@ -791,28 +972,31 @@ impl Script {
         };
         let s = self.screen;
         let half = u64::from(s[LINE_TIME] / 2);
-        let all = visible_ticks(&s);
         let row = row_length(&s);
-        let last = all.saturating_sub(1);
-        let event = match self.c.small(10) {
-            0 => 0,
-            1 => u64::from(s[V_PRE]) * half,
-            2 => u64::from(s[V_PRE] + s[V_SYNC]) * half,
-            3 => u64::from(s[V_PRE] + s[V_SYNC] + s[V_POST]) * half,
-            4 => flyback_ticks(&s),
-            5 => tick_of(&s, 0),
-            6 => tick_of(&s, 0).saturating_sub(u64::from(s[TRANSFER_DELAY])),
-            7 => tick_of(&s, last),
+        let field = self.some_field();
+        let last = field.shown().saturating_sub(1);
+        let event = match self.c.small(11) {
+            0 => field.begin,
+            1 => field.begin + u64::from(s[V_PRE]) * half,
+            2 => field.begin + u64::from(s[V_PRE] + s[V_SYNC]) * half,
+            3 => field.begin + u64::from(s[V_PRE] + s[V_SYNC] + s[V_POST]) * half,
+            4 => field.display,
+            5 => field.seen(0),
+            6 => field.seen(0).saturating_sub(u64::from(s[TRANSFER_DELAY])),
+            7 => field.seen(last),
             8 => {
-                let line = self.c.below(lines(&s));
-                tick_of(&s, line * u64::from(s[DISPLAY]))
+                let ends = field.line_ends();
+                let v = if ends.is_empty() { 0 } else { self.c.one_of(&ends) + self.c.below(2) };
+                field.seen(v)
             }
+            // A half line of VDisplay.
+            9 => field.display + self.c.below(u64::from(s[V_DISPLAY])) * half,
             _ => {
-                let k = self.c.below(all / row.max(1) + 1);
-                tick_of(&s, (k * row).min(last))
+                let k = self.c.below(field.shown() / row.max(1) + 1);
+                field.seen((k * row).min(last))
             }
         };
-        let frame = frame_ticks(&s);
+        let frame = self.frame_ticks();
         let target = (event + frame + self.c.below(3) - 1) % frame;
         let ticks = (target + frame - position) % frame;
         self.run(ticks);
@@ -820,7 +1004,7 @@ impl Script {
 
     fn to_the_frame_start(&mut self) {
         if let Some(position) = self.position {
-            let frame = frame_ticks(&self.screen);
+            let frame = self.frame_ticks();
             let ticks = (frame - position) % frame;
             if ticks > 0 {
                 self.run(ticks);
@@ -829,7 +1013,7 @@ impl Script {
     }
 
     fn picture(&mut self, good: bool) {
-        let length = picture_length(&self.screen);
+        let length = picture_length(&self.screen, self.laced());
         if good && length <= self.picture_bytes {
             self.picture_bytes -= length;
             self.command("picture", &[length]);
@@ -838,7 +1022,9 @@ impl Script {
                 self.position = self.position.filter(|&position| position == 0);
             }
         } else {
-            let wrong = match self.c.small(8) {
+            let wrong = match self.c.small(9) {
+                // What another format of the same screen would take.
+                8 => picture_length(&self.screen, !self.laced()),
                 0 | 1 => length + 1,
                 2 | 3 => length - 1,
                 4 => 0,
@@ -898,7 +1084,7 @@ impl Script {
             11 => {
                 // Several at once.
                 let depth = self.c.small(4);
-                control = self.running_control(depth);
+                control = self.running_control(depth, self.laced());
             }
             _ => control ^= 1 << self.c.one_of(&HELD),
         }
@@ -909,6 +1095,152 @@ impl Script {
             return;
         }
         self.write_control(control);
+    }
+
+    /// The other format asked for: refused while it runs, taken by a write that stops,
+    /// and accepted once the counts of half lines fit it.
+    fn change_format(&mut self) {
+        let control = self.control | RUN;
+        let other = control ^ INTERLACED;
+        match self.c.small(5) {
+            0 | 1 => {
+                // 4, also with a depth that would be 15, or another bit of 4.
+                let more = self.c.one_of(&[0, 0, 1 << DEPTH_PLACE, 1 << 11, FORCED_BLANK, 4]);
+                if self.running() {
+                    self.write(0x060, other ^ more);
+                    self.tick(1);
+                    self.read(0x060);
+                }
+            }
+            2 => {
+                self.write_control(other & !RUN);
+                self.tick(1);
+                self.nine();
+                // 16 or 18; then the format it had.
+                self.write(0x060, other);
+                self.write_control(control);
+            }
+            _ => {
+                let stopped = if self.c.in_a_hundred(50) { other } else { control } & !RUN;
+                self.write_control(stopped);
+                if self.c.in_a_hundred(50) {
+                    self.nine();
+                }
+                self.refit(is_laced(other));
+                for place in [V_BLANK, V_DISPLAY] {
+                    self.write(0x021 + place as u32, self.screen[place]);
+                }
+                let (top, needed) = self.choose_top(other);
+                self.top = top;
+                self.write(0x080, top);
+                self.lend_memory(needed);
+                self.write_control(other);
+                if self.c.in_a_hundred(50) {
+                    self.picture(true);
+                    self.nine();
+                }
+                let ticks = 1 + self.c.below(12);
+                self.tick(ticks);
+            }
+        }
+    }
+
+    /// Counts of half lines that fit a format, near the ones there are.
+    fn refit(&mut self, laced: bool) {
+        let up = self.c.in_a_hundred(50);
+        let s = &mut self.screen;
+        let one_off = |count: u32| if count > 2 && (!up || count > 4000) { count - 1 } else { count + 1 };
+        if (s[V_DISPLAY] % 2 == 1) != laced {
+            s[V_DISPLAY] = one_off(s[V_DISPLAY]);
+        }
+        let odd = if laced { flyback_half_lines(s) % 2 } else { s[V_BLANK] % 2 };
+        if odd == 1 {
+            s[V_BLANK] = one_off(s[V_BLANK]);
+        }
+    }
+
+    /// Something changed between the fields, or about the first VDisplay tick of the
+    /// second: top, increment, cursor position, forced blank, transfers, depth; the sums
+    /// of the first field read before.
+    fn between_fields(&mut self) {
+        let all = self.fields();
+        let [first, second] = &all[..] else {
+            return;
+        };
+        let from = first.seen(0) + 1;
+        let shows = second.seen(0);
+        let target = match self.c.small(6) {
+            0 => second.begin,
+            1 => second.display - 1 + self.c.below(3),
+            2 => first.end - 1,
+            // Past the tick that takes top and offset up, where that shows nothing yet.
+            3 | 4 if shows > second.display => {
+                second.display + 1 + self.c.below(shows - second.display)
+            }
+            _ => from + self.c.below(second.display + 2 - from),
+        };
+        if !self.run_to(target) {
+            return;
+        }
+        if self.c.in_a_hundred(60) {
+            self.nine();
+        }
+        let before = self.control;
+        for _ in 0..1 + self.c.below(2) {
+            match self.c.small(8) {
+                0..=2 => {
+                    let top = if self.c.in_a_hundred(50) {
+                        self.choose_top(self.control).0
+                    } else {
+                        self.top ^ (1 << self.c.small(11))
+                    };
+                    self.write(0x080, top);
+                    self.top = top;
+                }
+                3 | 4 => {
+                    let mut control = self.control & !(3 << INCREMENT_PLACE);
+                    control |= self.c.small(4) << INCREMENT_PLACE;
+                    // Where nothing is read the addresses are seen past every row.
+                    if self.c.in_a_hundred(40) {
+                        control |= FORCED_BLANK;
+                    }
+                    self.write_control(control);
+                }
+                5 => {
+                    self.write_cursor_position();
+                }
+                6 => self.write_control(self.control ^ FORCED_BLANK),
+                _ => self.change_control(),
+            }
+        }
+        // Shown from before the second field's prelude on.
+        let delay = u64::from(self.screen[TRANSFER_DELAY]);
+        let prelude = shows.saturating_sub(delay + 1);
+        if target < prelude {
+            self.run_to(prelude);
+        }
+        let ticks = delay + 3 + self.c.below(row_length(&self.screen).min(50));
+        self.tick(ticks);
+        if self.c.in_a_hundred(60) {
+            self.to_the_frame_start();
+            self.nine();
+        }
+        if self.c.in_a_hundred(40) {
+            self.write_control(before);
+        }
+    }
+
+    /// A whole picture asked at the second field's start, or about it.
+    fn picture_in_mid_frame(&mut self) {
+        let Some(second) = self.fields().pop() else {
+            return;
+        };
+        let target = second.begin + self.c.one_of(&[0, 0, 0, 1]);
+        if self.run_to(target) {
+            self.picture(true);
+            self.nine();
+            self.tick(1);
+        }
     }
 
     /// One change of another register while running.
@@ -972,7 +1304,13 @@ impl Script {
     /// A write that is refused, or that stands at a limit and changes nothing
     /// that is believed.
     fn refused_write(&mut self) {
-        match self.c.small(8) {
+        match self.c.small(9) {
+            8 => {
+                // 4 while running, for the other format.
+                if self.running() {
+                    self.write(0x060, self.control ^ INTERLACED);
+                }
+            }
             0 => {
                 // 2, some with a value that would be 1.
                 let address = self.c.one_of(&[
@@ -1027,10 +1365,10 @@ impl Script {
         }
     }
 
-    /// Checksums about the first VDisplay tick and the frame's end: refusal 5.
+    /// Checksums about a field's first VDisplay tick and its end: refusal 5.
     fn sums_in_time(&mut self) {
-        let frame = frame_ticks(&self.screen);
-        let edge = if self.c.in_a_hundred(50) { flyback_ticks(&self.screen) } else { frame };
+        let field = self.some_field();
+        let edge = if self.c.in_a_hundred(50) { field.display } else { field.end };
         if self.run_to(edge - 1) {
             for _ in 0..3 {
                 let address = 0x0C0 + self.c.small(3);
@@ -1097,7 +1435,8 @@ impl Script {
                 }
                 4 | 5 => {
                     let depth = self.c.small(4);
-                    let mut control = self.running_control(depth);
+                    let laced = self.c.in_a_hundred(50);
+                    let mut control = self.running_control(depth, laced);
                     if self.c.in_a_hundred(30) {
                         control &= !RUN;
                     }
@@ -1136,19 +1475,21 @@ impl Script {
 
     /// A frame bright and large enough for its sums to roll over past #FFFFFF.
     fn bright_frame(&mut self) {
+        let laced = self.c.in_a_hundred(50);
         self.stop();
-        self.screen = screen(&mut self.c, 16, Shape::Small);
+        self.screen = screen(&mut self.c, 16, Shape::Small, laced);
         self.screen[DISPLAY] = 256;
         self.screen[LINE_TIME] = 350;
-        self.screen[V_DISPLAY] = 132 + 2 * self.c.small(4);
+        self.screen[V_DISPLAY] = 132 + 2 * self.c.small(4) + u32::from(laced);
         self.write_parameters();
         let colour = 0xFF_FFFF - self.c.one_of(&[0, 0x01_0000, 0x01_0203, 0x00_7F00, 0xFF]);
         self.write(0x100, colour);
-        let control = self.running_control(3) & !FORCED_BLANK | TRANSFERS_OFF | CURSOR_OFF;
+        let control = self.running_control(3, laced) & !FORCED_BLANK | TRANSFERS_OFF | CURSOR_OFF;
         self.write_control(control);
-        self.run(frame_ticks(&self.screen));
+        let end = self.fields()[0].end;
+        self.run(end);
         self.nine();
-        let ticks = self.c.below(frame_ticks(&self.screen));
+        let ticks = self.c.below(end);
         self.run(ticks);
         self.stop();
         self.nine();
@@ -1172,8 +1513,13 @@ impl Script {
 
     /// One thing that happens while a screen runs.
     fn event(&mut self) {
-        let frame = frame_ticks(&self.screen);
-        match self.c.small(58) {
+        let frame = self.frame_ticks();
+        match self.c.small(69) {
+            58..=62 if self.laced() => self.between_fields(),
+            63 | 64 if self.laced() => self.picture_in_mid_frame(),
+            65 | 66 => self.change_format(),
+            58..=62 => self.top_in_time(),
+            67 | 68 => self.sums_in_time(),
             55 => self.covered_end(),
             56 | 57 => self.compare_line(),
             47 => self.write_and_read(),
@@ -1250,12 +1596,7 @@ impl Script {
             22 | 23 => self.refused_write(),
             24 => self.restart(),
             25 => {
-                let needed = memory_needed(
-                    &self.screen,
-                    self.bits(),
-                    u64::from(self.top),
-                    self.increment(),
-                );
+                let needed = self.needed();
                 if needed <= 1_048_576 {
                     self.lend_memory(needed);
                 }
@@ -1278,7 +1619,7 @@ impl Script {
         let Some(position) = self.position else {
             return false;
         };
-        let frame = frame_ticks(&self.screen);
+        let frame = self.frame_ticks();
         let ticks = (target % frame + frame - position) % frame;
         if ticks > 0 {
             self.run(ticks);
@@ -1289,17 +1630,20 @@ impl Script {
     /// Transfers switched at a line's last visible tick and again between lines.
     fn switch_between_lines(&mut self) {
         let s = self.screen;
-        let display = u64::from(s[DISPLAY]);
         let row = row_length(&s);
+        let field = self.some_field();
+        let ends = field.line_ends();
+        if ends.is_empty() {
+            return;
+        }
         // A line at whose last visible tick the request is high, if there is one.
-        let mut line = self.c.below(lines(&s));
-        for other in 0..lines(&s) - 1 {
-            let v = (other + 1) * display - 1;
-            if v % row >= u64::from(s[MEM_INIT]) && self.c.in_a_hundred(60) {
-                line = other;
+        let mut end = self.c.one_of(&ends);
+        for &other in &ends[..ends.len() - 1] {
+            if other % row >= u64::from(s[MEM_INIT]) && self.c.in_a_hundred(60) {
+                end = other;
             }
         }
-        if !self.run_to(tick_of(&s, (line + 1) * display - 1)) {
+        if !self.run_to(field.seen(end)) {
             return;
         }
         let on = self.control & !TRANSFERS_OFF;
@@ -1323,8 +1667,9 @@ impl Script {
     fn off_for_a_stretch(&mut self) {
         let s = self.screen;
         let before = self.control;
-        let v = self.c.below(visible_ticks(&s));
-        if !self.run_to(tick_of(&s, v)) {
+        let field = self.some_field();
+        let v = self.c.below(field.shown());
+        if !self.run_to(field.seen(v)) {
             return;
         }
         let mut control = before & !(TRANSFERS_OFF | FORCED_BLANK);
@@ -1343,11 +1688,12 @@ impl Script {
         self.nine();
     }
 
-    /// Another top of screen about the first VDisplay tick.
+    /// Another top of screen about a field's first VDisplay tick.
     fn top_in_time(&mut self) {
         let s = self.screen;
-        let first = tick_of(&s, 0);
-        let begin = flyback_ticks(&s);
+        let field = self.some_field();
+        let first = field.seen(0);
+        let begin = field.display;
         let target = match self.c.small(5) {
             0 => begin,
             1 => begin + 1,
@@ -1369,8 +1715,15 @@ impl Script {
     fn increment_in_time(&mut self) {
         let s = self.screen;
         let row = row_length(&s);
-        let k = self.c.below(visible_ticks(&s).div_ceil(row));
-        let target = tick_of(&s, k * row) + self.c.below(3) - 1;
+        let field = self.some_field();
+        let k = self.c.below(field.shown().div_ceil(row));
+        let first = field.seen(0);
+        let target = if self.laced() && self.c.in_a_hundred(40) {
+            // From the tick that takes up the offset to the first transfer.
+            field.display + self.c.below(first - field.display + 2)
+        } else {
+            field.seen(k * row) + self.c.below(3) - 1
+        };
         if !self.run_to(target) {
             return;
         }
@@ -1381,6 +1734,9 @@ impl Script {
             control |= FORCED_BLANK;
         }
         self.write_control(control);
+        if target + 2 < first {
+            self.run_to(first - 1);
+        }
         let ticks = 3 + self.c.below(2 * row.min(60));
         self.tick(ticks);
         if self.c.in_a_hundred(50) {
@@ -1408,7 +1764,7 @@ impl Script {
         self.memory = 65_536;
         self.command("fill", &[0, 65_536, 1, 1]);
         self.write_control(control);
-        self.run(frame_ticks(&self.screen));
+        self.run(self.frame_ticks());
         self.tick(2);
         self.position = None;
     }
@@ -1418,23 +1774,29 @@ impl Script {
     fn end_of_row(&mut self) {
         let s = self.screen;
         let row = row_length(&s);
-        let rows = visible_ticks(&s).div_ceil(row);
-        let top = u64::from(self.top);
-        let needed = memory_needed(&s, self.bits(), top, self.increment());
+        let mut control = self.control & !(TRANSFERS_OFF | FORCED_BLANK) | RUN;
+        let needed = self.needed();
+        let number = self.c.below(1 + u64::from(self.laced()));
+        let field = self.fields().swap_remove(number as usize);
+        let rows = field.shown().div_ceil(row);
         if rows < 2 || needed > 1_048_576 {
             return;
         }
         let k = 1 + self.c.below(rows - 1);
-        let pixels = (top / self.increment() + k) * row * 4;
+        let address = u64::from(self.top) + number * offset_of(control) + k * increment_of(control);
+        let pixels = address / row_unit(control) * row * 4;
         let length = (pixels * self.bits() / 8).min(1_048_576);
+        let to_it = field.seen(k * row);
+        self.command("memory", &[needed]);
+        self.memory = needed as u32;
+        self.stop();
+        self.write_control(control);
+        // A first field is let by with all it needs.
+        self.run(field.begin);
         self.command("memory", &[length]);
         self.memory = length as u32;
         self.command("fill", &[0, length, 1, 3]);
-        let control = self.control & !(TRANSFERS_OFF | FORCED_BLANK);
-        self.stop();
-        self.write_control(control | RUN);
-        let to_it = tick_of(&s, k * row);
-        self.run(to_it);
+        self.run(to_it - field.begin);
         self.tick(1);
         if self.c.in_a_hundred(30) {
             self.tick(1);
@@ -1442,7 +1804,7 @@ impl Script {
         // The place is known still, if nothing rolled over: just before the tick
         // that was refused.
         self.position = Some(to_it);
-        let control = self.control;
+        control = self.control;
         match self.c.small(5) {
             0 => self.write_control(control | TRANSFERS_OFF),
             1 => self.write_control(control | FORCED_BLANK),
@@ -1463,8 +1825,7 @@ impl Script {
 
     /// A frame with exactly enough memory, and then one byte short of it.
     fn end_of_memory(&mut self) {
-        let top = u64::from(self.top);
-        let needed = memory_needed(&self.screen, self.bits(), top, self.increment());
+        let needed = self.needed();
         if needed == 0 || needed > 1_048_576 {
             return;
         }
@@ -1476,7 +1837,7 @@ impl Script {
         if self.c.in_a_hundred(50) {
             self.picture(true);
         } else {
-            self.run(frame_ticks(&self.screen));
+            self.run(self.frame_ticks());
         }
         self.nine();
         self.command("memory", &[needed - 1]);
@@ -1484,7 +1845,7 @@ impl Script {
         if self.c.in_a_hundred(40) {
             self.picture(true);
         }
-        self.run(frame_ticks(&self.screen));
+        self.run(self.frame_ticks());
         self.tick(1);
         self.position = None;
         if self.c.in_a_hundred(40) {
@@ -1512,7 +1873,9 @@ impl Script {
         }
         self.top = 0;
         self.write(0x080, 0);
-        let ticks = u64::from(s[DISPLAY]).min(16).min(row_length(&s));
+        let field = fields(&s, is_laced(control)).swap_remove(0);
+        let first_line = field.line_ends()[0] + 1;
+        let ticks = first_line.min(16).min(row_length(&s));
         let bytes = 4 * ticks * bits / 8;
         let length = self.c.below(bytes + 1);
         self.command("memory", &[length]);
@@ -1521,7 +1884,7 @@ impl Script {
         if self.c.in_a_hundred(50) {
             self.picture(true);
         }
-        self.run(tick_of(&s, ticks));
+        self.run(field.seen(ticks - 1) + 1);
         self.tick(1);
         self.position = None;
     }
@@ -1921,13 +2284,15 @@ impl Script {
         };
         // A tower's lines are short: 8 bits alone allow that.
         let depth = if shape == Shape::Tower { 3 } else { depth };
+        let laced = self.c.in_a_hundred(50);
+        let bench_screen = if laced { INTERLACED_BENCH_SCREEN } else { BENCH_SCREEN };
         let new_screen = if self.c.in_a_hundred(8) {
-            BENCH_SCREEN
+            bench_screen
         } else {
-            screen(&mut self.c, SHIFT_PERIODS[depth as usize], shape)
+            screen(&mut self.c, SHIFT_PERIODS[depth as usize], shape, laced)
         };
-        // The bench screen's Display fits 8 bits alone.
-        let depth = if new_screen == BENCH_SCREEN { 3 } else { depth };
+        // The bench screens' Display fits 8 bits alone.
+        let depth = if new_screen == bench_screen { 3 } else { depth };
 
         self.stop();
         self.screen = new_screen;
@@ -1936,9 +2301,12 @@ impl Script {
             let place = self.c.small(14);
             self.read(0x021 + place);
         }
-        let mut control = self.running_control(depth);
+        let mut control = self.running_control(depth, laced);
         for _ in 0..self.c.below(3) {
             self.damaged_start(control);
+        }
+        if self.c.in_a_hundred(10) {
+            self.odd_and_even(control);
         }
         if self.c.in_a_hundred(10) {
             self.limits_of_ten(control);
@@ -1952,9 +2320,10 @@ impl Script {
         // is read.
         if self.c.in_a_hundred(15) {
             control |= self.c.one_of(&[FORCED_BLANK, TRANSFERS_OFF]);
-            let increment = INCREMENTS[((control >> INCREMENT_PLACE) & 3) as usize];
-            let rows = visible_ticks(&self.screen).div_ceil(row_length(&self.screen));
-            let back = 1 + self.c.below((rows * increment).min(0xFF_FFFF));
+            let increment = increment_of(control);
+            let rows = rows(&self.screen, laced);
+            let most = self.c.one_of(&[(rows * increment).min(0xFF_FFFF), row_unit(control)]);
+            let back = 1 + self.c.below(most);
             self.top = (0x100_0000 - back) as u32;
             self.lend_memory(64);
         } else {
@@ -1965,7 +2334,7 @@ impl Script {
         self.write(0x080, self.top);
         self.write_control(control);
 
-        let frame = frame_ticks(&self.screen);
+        let frame = self.frame_ticks();
         if shape == Shape::Tower || shape == Shape::Wide {
             self.far_cursor(shape == Shape::Tower);
         }
@@ -1973,7 +2342,7 @@ impl Script {
             self.picture(true);
             self.nine();
         }
-        if frame <= 900 && self.c.in_a_hundred(50) {
+        if frame <= 900 + 400 * u64::from(laced) && self.c.in_a_hundred(50) {
             self.tick(frame);
             self.nine();
         }
@@ -1986,14 +2355,92 @@ impl Script {
             _ => {}
         }
     }
+
+    // ----- pictures ----------------------------------------------------------
+
+    /// One screen from registers to a picture that is drawn, within 30,000 bytes.
+    fn drawn_screen(&mut self) {
+        let laced = self.c.in_a_hundred(65);
+        let depth = self.c.small(4);
+        let new_screen = loop {
+            let shape = match self.c.small(10) {
+                0 => Shape::Tall,
+                1 => Shape::Wide,
+                _ => Shape::Small,
+            };
+            let drawn = screen(&mut self.c, SHIFT_PERIODS[depth as usize], shape, laced);
+            if picture_length(&drawn, laced) <= 30_000 {
+                break drawn;
+            }
+        };
+        self.stop();
+        self.screen = new_screen;
+        self.write_parameters();
+        self.colours(depth);
+        if depth == 3 {
+            // So that few places show an entry that was never written.
+            self.write(0x040, 0x0F_0F0F);
+        }
+        if self.c.in_a_hundred(60) {
+            self.cursor();
+        }
+        let control = self.running_control(depth, laced);
+        let (top, needed) = self.choose_top(control);
+        self.top = top;
+        self.write(0x080, top);
+        self.memory = (needed + self.c.one_of(&[0, 0, 1, 100])).min(1_048_576) as u32;
+        self.command("memory", &[u64::from(self.memory)]);
+        let (start, step) = (self.c.below(256), 1 + 2 * self.c.below(128));
+        self.command("fill", &[0, u64::from(self.memory), start, step]);
+        self.write_control(control);
+        if self.c.in_a_hundred(30) {
+            let ticks = self.c.below(self.frame_ticks());
+            self.run(ticks);
+            self.to_the_frame_start();
+            if self.position != Some(0) {
+                self.restart_at_once();
+            }
+        }
+        self.command("picture", &[picture_length(&new_screen, laced)]);
+    }
+
+    fn restart_at_once(&mut self) {
+        let control = self.control;
+        self.write_control(control & !RUN);
+        self.write_control(control);
+    }
+
+    /// What may follow a picture: refused ones, ticks, registers of another screen, and
+    /// now and then a picture in the other format.
+    fn after_a_picture(&mut self) {
+        match self.c.small(6) {
+            0 => {
+                let length = picture_length(&self.screen, self.laced()) + 1;
+                self.command("picture", &[length]);
+            }
+            1 => {
+                let ticks = 1 + self.c.below(20);
+                self.run(ticks);
+            }
+            2 => self.tick(2),
+            3 => {
+                self.write_control(self.control & !RUN ^ INTERLACED);
+                for place in [DISPLAY, V_DISPLAY, LINE_TIME] {
+                    self.write(0x021 + place as u32, self.screen[place] + 2);
+                }
+            }
+            4 => self.fault(),
+            _ => self.change_format(),
+        }
+    }
 }
 
-/// A script of about so many lines, which runs about so many ticks at most.
-fn script(seed: u64, lines: usize, ticks: u64) -> Vec<u8> {
+/// Nothing written, and about so many ticks to spend.
+fn empty_script(seed: u64, ticks: u64) -> Script {
     let mut c = Chance(seed);
     let cr_lf = c.one_of(&[0, 0, 5, 50, 100]);
     let blanks = c.one_of(&[0, 3, 10, 60]);
-    let mut s = Script {
+    Script {
         c,
         out: Vec::new(),
         lines: 0,
@@ -2007,7 +2454,24 @@ fn script(seed: u64, lines: usize, ticks: u64) -> Vec<u8> {
         tick_lines: 3_000,
         ticks,
         picture_bytes: 60_000,
-    };
+    }
+}
+
+/// A script of one to three screens, a picture of each; then commands that draw none.
+fn woven(seed: u64) -> Vec<u8> {
+    let mut s = empty_script(seed, 20_000);
+    for _ in 0..1 + s.c.below(3) {
+        s.drawn_screen();
+    }
+    for _ in 0..s.c.below(5) {
+        s.after_a_picture();
+    }
+    s.out
+}
+
+/// A script of about so many lines, which runs about so many ticks at most.
+fn script(seed: u64, lines: usize, ticks: u64) -> Vec<u8> {
+    let mut s = empty_script(seed, ticks);
 
     // The beginning: all registers 0, stopped.
     for _ in 0..s.c.below(6) {
@@ -2015,7 +2479,10 @@ fn script(seed: u64, lines: usize, ticks: u64) -> Vec<u8> {
             0 => s.any_read(),
             1 => s.nine(),
             2 => s.tick(1),
-            3 => s.write(0x060, 0x30_0001),
+            3 => {
+                let control = s.c.one_of(&[0x30_0001, 0x30_0003]);
+                s.write(0x060, control);
+            }
             4 => s.refused_write(),
             _ => s.fault(),
         }
@@ -2064,16 +2531,20 @@ fn main() -> ExitCode {
     let words: Vec<String> =
         std::env::args_os().skip(1).map(|word| word.to_string_lossy().into_owned()).collect();
     let words: Vec<&str> = words.iter().map(String::as_str).collect();
-    let (spoilt, seed) = match words[..] {
-        [seed] => (false, seed.parse().ok()),
-        ["damaged", seed] => (true, seed.parse().ok()),
-        _ => (false, None),
+    let (kind, seed) = match words[..] {
+        [seed] => ("", seed.parse().ok()),
+        [kind @ ("damaged" | "woven"), seed] => (kind, seed.parse().ok()),
+        _ => ("", None),
     };
     let Some(seed) = seed else {
-        let _ = writeln!(std::io::stderr(), "use: generate [damaged] SEED, SEED below 2^64");
+        let _ = writeln!(std::io::stderr(), "use: generate [damaged | woven] SEED, SEED below 2^64");
         return ExitCode::from(2);
     };
-    let bytes = if spoilt { damaged::script(seed) } else { script(seed, 240, 150_000) };
+    let bytes = match kind {
+        "damaged" => damaged::script(seed),
+        "woven" => woven(seed),
+        _ => script(seed, 240, 150_000),
+    };
     match std::io::stdout().lock().write_all(&bytes) {
         Ok(()) => ExitCode::SUCCESS,
         Err(_) => ExitCode::from(1),

@@ -1,5 +1,6 @@
-// The machine of document 01: registers, refusals, starting, ticks, rows,
-// pixels, cursor, checksums and the whole picture.
+// The machine of document 01 with the interlaced screens of document 02, Q-4:
+// registers, refusals, starting, ticks, rows, pixels, cursor, checksums and the
+// whole picture.
 //
 // It is written to be read beside the paper. Nothing is worked out ahead of
 // time: every tick looks at the registers as they stand, and the state moves on
@@ -100,6 +101,11 @@ fn runs(control: u32) -> bool {
     bit(control, 0)
 }
 
+/// Bit 1: 1 is interlaced, a frame of two fields (02, Q-4).
+fn interlaced(control: u32) -> bool {
+    bit(control, 1)
+}
+
 /// Bit 4: 1 is plain flyback sync, 0 tesselated.
 fn plain_sync(control: u32) -> bool {
     bit(control, 4)
@@ -110,11 +116,35 @@ fn forces_blanking(control: u32) -> bool {
     bit(control, 10)
 }
 
-/// Bits 13 and 12: the address increment. Document 01, "Register map".
+/// Bits 13 and 12: the address increment. Document 01, "Register map"; of an
+/// interlaced screen, and the second field's offset, document 02, Q-4.
 const INCREMENTS: [u32; 4] = [1, 256, 512, 1024];
+const INTERLACED_INCREMENTS: [u32; 4] = [1, 2, 512, 1024];
+const SECOND_FIELD_OFFSETS: [u32; 4] = [1, 1, 256, 512];
+
+fn increment_code(control: u32) -> usize {
+    ((control >> 12) & 3) as usize
+}
 
 fn increment(control: u32) -> u32 {
-    INCREMENTS[((control >> 12) & 3) as usize]
+    if interlaced(control) {
+        INTERLACED_INCREMENTS[increment_code(control)]
+    } else {
+        INCREMENTS[increment_code(control)]
+    }
+}
+
+fn second_field_offset(control: u32) -> u32 {
+    SECOND_FIELD_OFFSETS[increment_code(control)]
+}
+
+/// What the held address is divided by to give the row number.
+fn address_of_a_row(control: u32) -> u32 {
+    if interlaced(control) {
+        second_field_offset(control)
+    } else {
+        increment(control)
+    }
 }
 
 /// Bit 14, "Turn off DMA": 0 is transfers on, 1 is transfers off (000, table 8.1).
@@ -142,7 +172,7 @@ fn cursor_on(control: u32) -> bool {
 /// The bits whose 1 gets refusal 4: those that document 01 names neither as
 /// having an effect nor as held without effect, and bit 22, whose 1 is another
 /// depth in every case.
-const BITS_NOT_IN_THE_BUILD: [u32; 9] = [1, 3, 11, 15, 16, 17, 18, 19, 22];
+const BITS_NOT_IN_THE_BUILD: [u32; 8] = [3, 11, 15, 16, 17, 18, 19, 22];
 
 fn not_in_the_build(control: u32) -> bool {
     BITS_NOT_IN_THE_BUILD.iter().any(|&number| bit(control, number))
@@ -156,7 +186,8 @@ fn bit(value: u32, number: u32) -> bool {
 // State.
 // ---------------------------------------------------------------------------
 
-/// The five periods of a frame, in their order. Document 01, "Lines and frames".
+/// The five periods of a field, in their order. Document 01, "Lines and frames". A
+/// frame is one field; of an interlaced screen, two.
 #[derive(Clone, Copy, PartialEq, Eq)]
 enum Period {
     PreEqualise,
@@ -166,20 +197,39 @@ enum Period {
     VDisplay,
 }
 
+/// A tick's place in the frame.
+#[derive(Clone, Copy)]
+struct Place {
+    in_second_field: bool,
+    period: Period,
+    /// The half line, from 0: of the period, and of the frame.
+    half_line: u32,
+    half_line_of_frame: u32,
+    /// The screen unit of that half line, from 0.
+    unit: u32,
+    /// The line of the field's VDisplay, from 0; a leading half is line 0.
+    line: u32,
+}
+
+/// Before the first tick of PreEqualise. Document 01, "Starting a screen".
+const FRAME_START: Place = Place {
+    in_second_field: false,
+    period: Period::PreEqualise,
+    half_line: 0,
+    half_line_of_frame: 0,
+    unit: 0,
+    line: 0,
+};
+
 /// Where the generator stands, and what it carries from tick to tick.
 #[derive(Clone, Copy)]
 struct Generator {
-    /// The period in which the next tick lies.
-    period: Period,
-    /// The cycle of that period, from 0: a cycle of half a line in the first
-    /// three periods, a full line in VBlank and VDisplay.
-    cycle: u32,
-    /// The screen unit of that cycle, from 0.
-    unit: u32,
-    /// v: how many visible ticks of this frame are past. Document 01, "Rows and
+    /// Where the next tick lies.
+    place: Place,
+    /// v: how many visible ticks of this field are past. Document 01, "Rows and
     /// pixels": only visible ticks count.
     v: u32,
-    /// Top of screen as taken up at the first VDisplay tick.
+    /// Where this field's rows begin, as taken up at its first VDisplay tick.
     top_taken_up: u32,
     /// The address of the last transfer.
     held_address: u32,
@@ -187,11 +237,8 @@ struct Generator {
     last_request: bool,
 }
 
-/// Before the first tick of PreEqualise. Document 01, "Starting a screen".
 const AT_THE_START: Generator = Generator {
-    period: Period::PreEqualise,
-    cycle: 0,
-    unit: 0,
+    place: FRAME_START,
     v: 0,
     top_taken_up: 0,
     held_address: 0,
@@ -257,15 +304,15 @@ impl Machine {
 
     /// Whether the next tick is the first of a frame.
     pub fn at_a_frame_start(&self) -> bool {
-        let g = &self.generator;
-        g.period == Period::PreEqualise && g.cycle == 0 && g.unit == 0
+        let place = &self.generator.place;
+        !place.in_second_field && starts_a_field(place)
     }
 
     // -----------------------------------------------------------------------
     // Register writes and reads. Document 01, "Refusal numbers".
     // -----------------------------------------------------------------------
 
-    /// Order for a write: 2, 1, 3, 4, then 10 to 17. A refused write returns
+    /// Order for a write: 2, 1, 3, 4, then 10 to 18. A refused write returns
     /// before anything is changed.
     pub fn write(&mut self, address: u32, value: u32) -> Result<(), Refusal> {
         // 2: reserved address, or a checksum written.
@@ -308,7 +355,11 @@ impl Machine {
         if not_in_the_build(value) {
             return Err(4);
         }
-        // With bit 0 set: 10 to 17, as the new value stands, running or not.
+        // 4: bit 1 changed while running, by a write that does not stop.
+        if self.running() && runs(value) && interlaced(value) != interlaced(self.control) {
+            return Err(4);
+        }
+        // With bit 0 set: 10 to 18, as the new value stands, running or not.
         if runs(value) {
             self.check_screen(value)?;
         }
@@ -323,7 +374,7 @@ impl Machine {
         Ok(())
     }
 
-    /// Refusals 10 to 17, lowest number first, for the screen parameters as they
+    /// Refusals 10 to 18, lowest number first, for the screen parameters as they
     /// stand under the control value given.
     fn check_screen(&self, control: u32) -> Result<(), Refusal> {
         let p = &self.parameters;
@@ -356,14 +407,20 @@ impl Machine {
         if p[DISPLAY] % SHIFT_PERIODS[depth_code(control)] != 0 {
             return Err(15);
         }
-        // 16: VDisplay or VBlank odd.
-        if p[V_DISPLAY] % 2 != 0 || p[V_BLANK] % 2 != 0 {
+        // 16: VDisplay or VBlank odd, of a screen that is not interlaced.
+        if !interlaced(control) && (p[V_DISPLAY] % 2 != 0 || p[V_BLANK] % 2 != 0) {
             return Err(16);
         }
         // 17: TransferDelay not below BackPorch - 1, or above ShortDisplay.
         // (BackPorch is at least 1 here.)
         if !(p[TRANSFER_DELAY] < p[BACK_PORCH] - 1) || p[TRANSFER_DELAY] > p[SHORT_DISPLAY] {
             return Err(17);
+        }
+        // 18: VDisplay or the sum of the five counts even, of an interlaced screen.
+        let half_lines =
+            p[V_PRE_EQUALISE] + p[V_SYNC] + p[V_POST_EQUALISE] + p[V_BLANK] + p[V_DISPLAY];
+        if interlaced(control) && (p[V_DISPLAY] % 2 == 0 || half_lines % 2 == 0) {
+            return Err(18);
         }
         Ok(())
     }
@@ -385,8 +442,8 @@ impl Machine {
             }
             Register::Checksum(number) => {
                 // 5: checksum read while running, the next tick not in flyback,
-                // that is, in VDisplay.
-                if self.running() && self.generator.period == Period::VDisplay {
+                // that is, in VDisplay of either field.
+                if self.running() && self.generator.place.period == Period::VDisplay {
                     return Err(5);
                 }
                 Ok(self.checksum(number))
@@ -423,7 +480,8 @@ impl Machine {
 
         let p = &self.parameters;
         let control = self.control;
-        let Generator { period, cycle, unit, .. } = self.generator;
+        let place = self.generator.place;
+        let period = place.period;
         let mut after = self.generator;
         let mut sums = self.sums;
 
@@ -433,37 +491,36 @@ impl Machine {
         // equalisation.
         let plain = plain_sync(control);
         let sync_low = match period {
-            Period::PreEqualise | Period::PostEqualise => !plain && unit < p[HALF_SYNC],
-            Period::VSync => plain || unit < p[BROAD_PULSE],
-            Period::VBlank | Period::VDisplay => unit < 2 * p[HALF_SYNC],
+            Period::PreEqualise | Period::PostEqualise => !plain && place.unit < p[HALF_SYNC],
+            Period::VSync => plain || place.unit < p[BROAD_PULSE],
+            Period::VBlank | Period::VDisplay => self.unit_of_line(&place) < 2 * p[HALF_SYNC],
         };
         // Vertical sync is low exactly in VSync; FrameInactive is high in all but
         // VDisplay.
         let vertical_sync = period != Period::VSync;
         let frame_inactive = period != Period::VDisplay;
 
-        // A visible tick is a Display tick inside VDisplay. A full line is twice
-        // HalfSync, BackPorch, Display, then front porch.
-        let display_begins = 2 * p[HALF_SYNC] + p[BACK_PORCH];
-        let display_ends = display_begins + p[DISPLAY];
-        let visible =
-            period == Period::VDisplay && unit >= display_begins && unit < display_ends;
+        let visible = self.is_visible(&place);
         let forced_blank = forces_blanking(control);
         // A tick is blank unless visible and not forced blank.
         let blank = !(visible && !forced_blank);
 
-        // The first VDisplay tick takes up the top of screen and clears the sums.
-        if period == Period::VDisplay && cycle == 0 && unit == 0 {
-            after.top_taken_up = self.top_of_screen;
+        // A field's first VDisplay tick takes up the top of screen and clears the
+        // sums; the second field begins at top plus offset, modulo 2^24. It may be
+        // a visible tick too, whose pixels are added after that.
+        if period == Period::VDisplay && place.half_line == 0 && place.unit == 0 {
+            after.top_taken_up = if place.in_second_field {
+                (self.top_of_screen + second_field_offset(control)) & GREATEST
+            } else {
+                self.top_of_screen
+            };
             sums = [0; 3];
         }
 
         // R, the row length.
         let row_length = p[MEM_INIT] + p[TRANSFER_DELAY];
-        // The frame's visible ticks, all told.
-        let visible_ticks = p[DISPLAY] * (p[V_DISPLAY] / 2);
 
-        let mut request = false;
+        let request;
         let mut address = None;
         // A blank tick puts out four black pixels.
         let mut colours = [0; 4];
@@ -494,15 +551,15 @@ impl Machine {
             // Forced-blank ticks read nothing, show black, and are not summed.
             if !forced_blank {
                 // Row number is the held address divided by the current
-                // increment, rounded down; its first pixel stands row x R x 4
-                // pixels from the beginning.
-                let row = u64::from(after.held_address / increment(control));
+                // increment, interlaced by the offset, rounded down; its first
+                // pixel stands row x R x 4 pixels from the beginning.
+                let row = u64::from(after.held_address / address_of_a_row(control));
                 let first_pixel =
                     row * u64::from(row_length) * 4 + u64::from(place_in_row) * 4;
-                // The tick's pixels on the screen, counted from the first visible
-                // pixel of the frame.
-                let screen_x = 4 * (unit - display_begins);
-                let screen_y = cycle;
+                // The tick's pixels on the screen: columns count from the line's
+                // Display start, rows are lines of the field.
+                let screen_x = 4 * (self.unit_of_line(&place) - self.display_begins());
+                let screen_y = place.line;
 
                 for (number, colour) in colours.iter_mut().enumerate() {
                     // With transfers off every pixel is 0 and nothing is read. A
@@ -520,22 +577,26 @@ impl Machine {
                 }
             }
             after.v = v + 1;
-        } else if period == Period::VDisplay {
+        } else {
             request = transfers_on(control)
                 && if after.v == 0 {
-                    // High in the TransferDelay ticks just before the first
-                    // visible tick.
-                    unit + p[TRANSFER_DELAY] >= display_begins
-                } else if after.v < visible_ticks {
+                    // High in the TransferDelay ticks just before the field's
+                    // first visible tick.
+                    self.shows_within(place, p[TRANSFER_DELAY])
+                } else if self.shows_within(place, u32::MAX) {
                     // Between lines it keeps its value at the visible tick before.
                     after.last_request
                 } else {
-                    // After the frame's last visible tick it is low.
+                    // After the field's last visible tick it is low.
                     false
                 };
         }
 
-        self.move_on(&mut after);
+        after.place = self.place_after(place);
+        if starts_a_field(&after.place) {
+            // v counts a field's visible ticks from 0.
+            after.v = 0;
+        }
         self.generator = after;
         self.sums = sums;
         Ok(Signals {
@@ -550,37 +611,95 @@ impl Machine {
         })
     }
 
-    /// Moves a generator to its next tick. Document 01, "Lines and frames": a
-    /// frame is VPreEqualise, VSync, VPostEqualise, VBlank, VDisplay, counted in
-    /// half lines. The first three run in cycles of LineTime/2 ticks; the other
-    /// two in full lines of LineTime ticks, two half lines each.
-    fn move_on(&self, g: &mut Generator) {
+    // -----------------------------------------------------------------------
+    // Places in the frame. Document 01, "Lines and frames"; document 02, Q-4.
+    // -----------------------------------------------------------------------
+
+    /// The place of the tick after one. A field is VPreEqualise, VSync,
+    /// VPostEqualise, VBlank, VDisplay, counted in half lines of LineTime/2 ticks;
+    /// half lines are numbered through the frame.
+    fn place_after(&self, mut place: Place) -> Place {
         let p = &self.parameters;
-        let half = p[LINE_TIME] / 2;
-        let full = p[LINE_TIME];
-        // The ticks of a cycle, the cycles of the period, and the period after.
-        let (units, cycles, next) = match g.period {
-            Period::PreEqualise => (half, p[V_PRE_EQUALISE], Period::VSync),
-            Period::VSync => (half, p[V_SYNC], Period::PostEqualise),
-            Period::PostEqualise => (half, p[V_POST_EQUALISE], Period::VBlank),
-            Period::VBlank => (full, p[V_BLANK] / 2, Period::VDisplay),
-            Period::VDisplay => (full, p[V_DISPLAY] / 2, Period::PreEqualise),
+        place.unit += 1;
+        if place.unit < p[LINE_TIME] / 2 {
+            return place;
+        }
+        place.unit = 0;
+        place.half_line += 1;
+        place.half_line_of_frame += 1;
+        let (half_lines, next) = match place.period {
+            Period::PreEqualise => (p[V_PRE_EQUALISE], Period::VSync),
+            Period::VSync => (p[V_SYNC], Period::PostEqualise),
+            Period::PostEqualise => (p[V_POST_EQUALISE], Period::VBlank),
+            Period::VBlank => (p[V_BLANK], Period::VDisplay),
+            Period::VDisplay => (p[V_DISPLAY], Period::PreEqualise),
         };
-        g.unit += 1;
-        if g.unit < units {
-            return;
+        if place.half_line < half_lines {
+            // Within VDisplay every first half begins another line.
+            if place.period == Period::VDisplay && !self.in_second_half(&place) {
+                place.line += 1;
+            }
+            return place;
         }
-        g.unit = 0;
-        g.cycle += 1;
-        if g.cycle < cycles {
-            return;
-        }
-        g.cycle = 0;
-        g.period = next;
+        place.half_line = 0;
+        place.line = 0;
+        place.period = next;
         if next == Period::PreEqualise {
-            // A new frame: v counts a frame's visible ticks from 0.
-            g.v = 0;
+            // A frame is one field, or two when interlaced.
+            place.in_second_field = interlaced(self.control) && !place.in_second_field;
+            if !place.in_second_field {
+                place.half_line_of_frame = 0;
+            }
         }
+        place
+    }
+
+    /// Whether a half line of VBlank or VDisplay is the second half of a line:
+    /// interlaced an odd one of the frame, otherwise an odd one of its period, for
+    /// lines are then counted from VBlank's first half line and VBlank is even.
+    fn in_second_half(&self, place: &Place) -> bool {
+        if interlaced(self.control) {
+            place.half_line_of_frame % 2 == 1
+        } else {
+            place.half_line % 2 == 1
+        }
+    }
+
+    /// The screen unit of the full line, in VBlank and VDisplay.
+    fn unit_of_line(&self, place: &Place) -> u32 {
+        if self.in_second_half(place) {
+            self.parameters[LINE_TIME] / 2 + place.unit
+        } else {
+            place.unit
+        }
+    }
+
+    /// A full line is twice HalfSync, BackPorch, Display, then front porch.
+    fn display_begins(&self) -> u32 {
+        2 * self.parameters[HALF_SYNC] + self.parameters[BACK_PORCH]
+    }
+
+    /// A visible tick is a Display tick inside VDisplay.
+    fn is_visible(&self, place: &Place) -> bool {
+        let begins = self.display_begins();
+        let unit = self.unit_of_line(place);
+        place.period == Period::VDisplay
+            && unit >= begins
+            && unit < begins + self.parameters[DISPLAY]
+    }
+
+    /// Whether one of the next `ticks` ticks of the same field is visible.
+    fn shows_within(&self, mut place: Place, ticks: u32) -> bool {
+        for _ in 0..ticks {
+            place = self.place_after(place);
+            if starts_a_field(&place) {
+                return false;
+            }
+            if self.is_visible(&place) {
+                return true;
+            }
+        }
+        false
     }
 
     /// Document 01, "Rows and pixels": picture memory is packed, least
@@ -633,15 +752,23 @@ impl Machine {
     // The whole picture.
     // -----------------------------------------------------------------------
 
-    /// The visible pixels of a frame. A visible tick is four pixels; a line of
-    /// VDisplay is two half lines.
+    /// The visible pixels of a frame, four to a visible tick, counted tick by tick.
     pub fn visible_pixels(&self) -> u64 {
-        let display = u64::from(self.parameters[DISPLAY]);
-        let lines = u64::from(self.parameters[V_DISPLAY] / 2);
-        display * lines * 4
+        let mut pixels = 0;
+        let mut place = FRAME_START;
+        loop {
+            if self.is_visible(&place) {
+                pixels += 4;
+            }
+            place = self.place_after(place);
+            if starts_a_field(&place) && !place.in_second_field {
+                return pixels;
+            }
+        }
     }
 
-    /// A whole picture: one frame ticked, the visible ticks' colours joined.
+    /// A whole picture: one frame ticked, the visible ticks' colours joined, so
+    /// that of two fields the first comes before the second.
     /// Order: 22, 21, 20. The frame is ticked on a copy of the machine, so a
     /// refusal leaves machine and buffer as they were; an accepted picture leaves
     /// the machine at the start of the next frame.
@@ -673,6 +800,11 @@ impl Machine {
         *self = copy;
         Ok(())
     }
+}
+
+/// Whether a place is the first of a field.
+fn starts_a_field(place: &Place) -> bool {
+    place.period == Period::PreEqualise && place.half_line == 0 && place.unit == 0
 }
 
 /// A 12-bit field in two's complement: -2,048 to 2,047.

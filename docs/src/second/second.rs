@@ -1,13 +1,14 @@
-// The second program: an independent machine of document 01, driven by the bench
-// script of docs/SCRIPT.md.
+// The second program: an independent machine of document 01 with the interlaced
+// screens of document 02, Q-4, driven by the bench script of docs/SCRIPT.md.
 //
 // Build:   rustc --edition 2021 -O -o second second.rs
 // Use:     second < script          answers as `bench` gives them
 //          second sheet < sheet     the sheet program of document 01,
 //                                   "Screen sheet": four lines, or `refused N`
 //
-// It was written from the papers alone: document 01, docs/SCRIPT.md, and, for the
-// bit senses and depth codes of control A, document 000. Standard library only.
+// It was written from the papers alone: document 01, Q-4 of document 02,
+// docs/SCRIPT.md, and, for the bit senses and depth codes of control A, document
+// 000. Standard library only.
 // It goes tick by tick and works nothing out ahead, so that it can be checked
 // against the paper by reading.
 //
@@ -21,13 +22,13 @@
 //
 //  S1. Addresses and values are 32-bit numbers; every address outside the map
 //      gets 2.
-//  S2. Refusal 4 looks at bits 1, 3, 11, 15 to 19 and 22 of any control write,
-//      also one with bit 0 clear.
+//  S2. Refusal 4 looks at bits 3, 11, 15 to 19 and 22 of any control write, also
+//      one with bit 0 clear; bit 1 stands under I1.
 //  S3. Stopping changes the control alone: position and sums stay, and the
 //      checksums can be read. Starting resets every generator field.
-//  S4. A control write that leaves bit 0 set is checked for 10 to 17 as the new
+//  S4. A control write that leaves bit 0 set is checked for 10 to 18 as the new
 //      value stands, and does not restart.
-//  S5. Refusal 5: running, and the next tick lies in VDisplay.
+//  S5. Refusal 5: running, and the next tick lies in VDisplay, of either field.
 //  S6. Forced blank leaves a tick visible in the count v: v, held address,
 //      request and answered addresses go on; nothing is read or summed; a picture
 //      gets black.
@@ -40,8 +41,37 @@
 //      the row number uses the increment in force at each tick.
 // S10. A tick refused by 20 takes nothing up, clears nothing, advances nothing.
 // S11. Full lines count from VBlank's first half line, whatever the parity of the
-//      first three periods.
+//      first three periods; interlaced, see I4.
 // S12. A whole picture is given in every mode.
+//
+// Interlaced screens (document 02, Q-4)
+//
+//  I1. Bit 1 of the control is interlaced. It gets 4 where the generator runs, the
+//      new value keeps bit 0 set and bit 1 changes; a write that stops may change
+//      it, and so may any write while stopped. 10 to 18 are checked of the new
+//      value. Bit 2 stays without effect.
+//  I2. By bits 13,12 the increments are 1, 2, 512, 1,024 and the second field's
+//      offsets 1, 1, 256, 512. The row number is the held address divided by the
+//      offset, as the control stands at each tick.
+//  I3. A frame is two fields of five periods each. A start, a whole picture and 22
+//      speak of the frame's start, half line 0; the second field's start is none.
+//  I4. Half lines are numbered through the frame. In VBlank and VDisplay an even
+//      one is the first half of a line and an odd one the second, wherever the
+//      periods begin; a leading or closing half stands alone.
+//  I5. Top is taken up and the sums are cleared at each field's first VDisplay tick,
+//      as the register stands then; the second field begins at top plus offset,
+//      modulo 2^24, with the offset as the control stands then. That tick may be
+//      visible: it takes up, clears, transfers, shows and adds, in that order.
+//  I6. v begins at 0 in each field. Before the first visible tick of a field the
+//      request is high where one of the field's next TransferDelay ticks is
+//      visible, in VBlank too; after its last visible tick it is low.
+//  I7. A field may show nothing: it then has no transfer and no request, and still
+//      takes top up and clears the sums.
+//  I8. The cursor's columns count from the line's Display start, its rows count the
+//      field's lines; a leading half is row 0. Both fields have a row 0.
+//  I9. A whole picture holds the first field's visible pixels and then the second's,
+//      12 x Display x VDisplay bytes in all, and leaves the machine as the ticks do.
+// I10. 16 is for screens that are not interlaced; 18, after 17, for those that are.
 //
 // ---------------------------------------------------------------------------
 // Readings chosen here, each with its reason
@@ -85,7 +115,7 @@
 //      summed. Reason: S10.
 //  M9. The boot location #000, #070 and the gaps of the map are reserved.
 //      Reason: the map does not hold them.
-// M10. Limits of documents 000 and 001 that refusals 10 to 17 do not name (all
+// M10. Limits of documents 000 and 001 that refusals 10 to 18 do not name (all
 //      parameters above 1, Display ending past half a line, BackPorch above 16,
 //      the cursor's offset under a short BackPorch) are not checked and have no
 //      effect. Reason: each refusal is given "exactly when" its row says so.
