@@ -658,13 +658,19 @@ impl Script {
             self.write(0x021 + place as u32, value);
             touched.push(place);
         }
+        self.start_and_restore(control, &touched);
+    }
+
+    /// A start with the parameters as they stand, perhaps a tick, a stop, and the touched
+    /// parameters set right again.
+    fn start_and_restore(&mut self, control: u32, touched: &[usize]) {
         self.write(0x060, control);
         if self.c.in_a_hundred(30) {
             self.command("tick", &[]);
         }
         self.write(0x060, control & !RUN);
-        for place in touched {
-            self.write(0x021 + place as u32, s[place]);
+        for &place in touched {
+            self.write(0x021 + place as u32, self.screen[place]);
         }
     }
 
@@ -689,14 +695,7 @@ impl Script {
                 touched.push(DISPLAY);
             }
             let control = if self.c.in_a_hundred(40) { control ^ INTERLACED } else { control };
-            self.write(0x060, control);
-            if self.c.in_a_hundred(30) {
-                self.command("tick", &[]);
-            }
-            self.write(0x060, control & !RUN);
-            for place in touched {
-                self.write(0x021 + place as u32, s[place]);
-            }
+            self.start_and_restore(control, &touched);
         }
         self.control = control & !RUN;
     }
