@@ -1,6 +1,6 @@
 -- Cases of this crate's functions, over plain tests. Assumes nothing.
-use Prim.Native.Nat.{ℕ, _+_, _*_, _/_, _%_, _≤_}
-use mathlib.Core.Path.{_≡_, refl, sym, _∙_}
+use Prim.Native.Nat.{ℕ, _+_, _*_, _≤_, _<_}
+use mathlib.Core.Path.{_≡_, refl, sym, _∙_, ap}
 use mathlib.Core.Bool.{Bool, true, false, cond, _||_}
 use mathlib.Core.List.{List}
 use native.Mathlib.Omega.{arith}
@@ -9,7 +9,9 @@ use Rattle.marks.specs.Near.{near}
 use Rattle.marks.proofs.ear.Near.{far-hidden}
 use Rattle.audiogram.specs.Form.{form}
 use Rattle.audiogram.specs.Entry.{paperEntry, formEntry, entryAt}
-use Rattle.audiogram.specs.Picture.{byteAt}
+use Rattle.audiogram.specs.Places.{holds, pixelOf}
+use Rattle.audiogram.specs.Picture.{packed, fourFrom, entryOf, byteAt}
+use Rattle.audiogram.proofs.Places.{holds-next, pixel-next}
 use Rattle.marks.specs.declared.points.Point.{Point}
 
 -- what is asked of a pixel: where no ear is near, the form alone
@@ -31,16 +33,31 @@ module _ (right left : List ℕ) (x y : ℕ) (a b : Bool) (e : a ≡ near right 
           let far = neither-holds a b g in
           k ∙ rw (far-hidden p q row (omega arith) (omega arith) true right (sym e ∙ far .0), far-hidden p q row (omega arith) (omega arith) false left (sym f ∙ far .1))
 
--- a byte, of its four pixels' entries
-module _ (right left : List ℕ) (i : ℕ) (a b : Bool) where
-  pub byte-made : (first second third fourth : ℕ) → a ≡ near right (record { x = i % 160 * 4; y = i / 160 }) → b ≡ near left (record { x = i % 160 * 4; y = i / 160 }) → first ≡ asked right left (a || b) (record { x = i % 160 * 4; y = i / 160 }) → second ≡ asked right left (a || b) (record { x = i % 160 * 4 + 1; y = i / 160 }) → third ≡ asked right left (a || b) (record { x = i % 160 * 4 + 2; y = i / 160 }) → fourth ≡ asked right left (a || b) (record { x = i % 160 * 4 + 3; y = i / 160 }) → first + 4 * second + 16 * third + 64 * fourth ≡ byteAt right left i
-  unfolding byteAt
-  byte-made first second third fourth e f g h j k =
-      let x = i % 160 * 4 in
-      let y = i / 160 in
+-- their byte, of the four entries
+module _ (right left : List ℕ) (x y : ℕ) (a b : Bool) where
+  pub four-made : (first second third fourth : ℕ) → a ≡ near right (record { x = x; y = y }) → b ≡ near left (record { x = x; y = y }) → first ≡ asked right left (a || b) (record { x = x; y = y }) → second ≡ asked right left (a || b) (record { x = x + 1; y = y }) → third ≡ asked right left (a || b) (record { x = x + 2; y = y }) → fourth ≡ asked right left (a || b) (record { x = x + 3; y = y }) → packed first second third fourth ≡ fourFrom right left (record { x = x; y = y })
+  four-made first second third fourth e f g h j k =
       rw (
         entry-made right left x y a b e f 0 first (record { x = x; y = y }) refl (omega arith) (omega arith) g,
         entry-made right left x y a b e f 1 second (record { x = x + 1; y = y }) refl refl (omega arith) h,
         entry-made right left x y a b e f 2 third (record { x = x + 2; y = y }) refl refl (omega arith) j,
         entry-made right left x y a b e f 3 fourth (record { x = x + 3; y = y }) refl refl (omega arith) k,
       )
+
+-- a byte of the memory: four pixels of the chart, or paper
+module _ (n : Bool) (right left : List ℕ) (i : ℕ) where
+  entry-next : (j : ℕ) → j < 4 → entryOf n right left (4 * i + j) ≡ cond (holds n (4 * i)) (entryAt right left (record { x = pixelOf n (4 * i) .x + j; y = pixelOf n (4 * i) .y })) paperEntry
+  unfolding entryOf
+  entry-next j h = go (holds n (4 * i)) refl
+    where
+      go : (b : Bool) → holds n (4 * i) ≡ b → cond (holds n (4 * i + j)) (entryAt right left (pixelOf n (4 * i + j))) paperEntry ≡ cond b (entryAt right left (record { x = pixelOf n (4 * i) .x + j; y = pixelOf n (4 * i) .y })) paperEntry
+      go true e = rw (holds-next i j h n, e) (ap (entryAt right left) (pixel-next i j h n e))
+      go false e = rw (holds-next i j h n, e)
+
+  pub byte-held : holds n (4 * i) ≡ true → fourFrom right left (pixelOf n (4 * i)) ≡ byteAt n right left i
+  unfolding byteAt entryOf
+  byte-held e = rw (entry-next 1 (omega arith), entry-next 2 (omega arith), entry-next 3 (omega arith), e)
+
+  pub byte-paper : holds n (4 * i) ≡ false → 0 ≡ byteAt n right left i
+  unfolding byteAt entryOf
+  byte-paper e = rw (entry-next 1 (omega arith), entry-next 2 (omega arith), entry-next 3 (omega arith), e)

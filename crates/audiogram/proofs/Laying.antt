@@ -10,12 +10,13 @@ use lib.ListN.{length, drop, drop-of-length-le}
 use Rattle.base.specs.Count.{run}
 use Rattle.audiogram.specs.Picture.{size, byteAt, drawn}
 
-pub laid-whole : (right left memory now : List ℕ) (i : ℕ) → i ≡ min (length memory) size → now ≡ run (byteAt right left) 0 i ++ drop i memory → now ≡ drawn right left memory
-unfolding drawn
-laid-whole right left memory now i e h = h ∙ rw (go (leb size (length memory)) refl, e)
-  where
-    go : (b : Bool) → leb size (length memory) ≡ b → drop i memory ≡ drop size memory
-    go true t = let whole : i ≡ size = omega (arith, leb-true size (length memory) t, e) in rw whole
-    go false t =
-        let short = leb-false size (length memory) t in
-        drop-of-length-le memory {i = i} (omega (arith, short, e)) ∙ sym (drop-of-length-le memory {i = size} (omega (arith, short)))
+module _ (n : Bool) (right left memory : List ℕ) where
+  pub laid-whole : (now : List ℕ) (i : ℕ) → i ≡ min (length memory) (size n) → now ≡ run (byteAt n right left) 0 i ++ drop i memory → now ≡ drawn n right left memory
+  unfolding drawn
+  laid-whole now i e h = h ∙ rw (go (leb (size n) (length memory)) refl, e)
+    where
+      go : (b : Bool) → leb (size n) (length memory) ≡ b → drop i memory ≡ drop (size n) memory
+      go true t = let whole : i ≡ size n = omega (arith, leb-true (size n) (length memory) t, e) in rw whole
+      go false t =
+          let short = leb-false (size n) (length memory) t in
+          drop-of-length-le memory {i = i} (omega (arith, short, e)) ∙ sym (drop-of-length-le memory {i = size n} (omega (arith, short)))

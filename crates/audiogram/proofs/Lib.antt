@@ -1,4 +1,5 @@
 -- Laws of the audiogram's picture.
 pub mod Cases
 pub mod Laying
+pub mod Places
 pub mod Theorems

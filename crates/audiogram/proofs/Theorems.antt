@@ -18,8 +18,10 @@ use Rattle.marks.specs.Marks.{mark}
 use Rattle.marks.specs.Ear.{measured, columns, pointOf, lastBefore, coveredAt, shows}
 use Rattle.audiogram.specs.Form.{form}
 use Rattle.audiogram.specs.Entry.{paperEntry, rightEntry, leftEntry, formEntry, entryAt}
-use Rattle.audiogram.specs.Picture.{size, byteAt, drawn}
+use Rattle.audiogram.specs.Places.{placeOf, holds, pixelOf}
+use Rattle.audiogram.specs.Picture.{size, entryOf, byteAt, drawn}
 use Rattle.marks.specs.declared.points.Point.{Point}
+use Rattle.audiogram.proofs.Places.{place-pixel, place-holds, place-inside}
 
 -- ---- entries
 
@@ -118,64 +120,82 @@ unpack a b c d (suc (suc zero)) p q r h = omega arith
 unpack a b c d (suc (suc (suc zero))) p q r h = omega arith
 unpack a b c d (suc (suc (suc (suc j)))) p q r h = absurd (omega arith)
 
-same-point : (p : Point) (x y : ℕ) → x ≡ p .x → y ≡ p .y → _≡_ {A = Point} (record { x = x; y = y }) p
-same-point p x y e f = rw (e, f)
+module _ (n : Bool) (right left : List ℕ) where
+  entry-of-bound : (place : ℕ) → entryOf n right left place ≤ 3
+  unfolding entryOf
+  entry-of-bound place = go (holds n place)
+    where
+      go : (b : Bool) → cond b (entryAt right left (pixelOf n place)) paperEntry ≤ 3
+      go true = entry-bound right left (pixelOf n place)
+      go false = omega arith
 
-module _ (right left : List ℕ) (k : ℕ) where
-  abbrev entry : ℕ → ℕ
-  entry j = entryAt right left (record { x = k % 160 * 4 + j; y = k / 160 })
+  module _ (k : ℕ) where
+    abbrev entry : ℕ → ℕ
+    entry j = entryOf n right left (4 * k + j)
 
-  abbrev first : ℕ
-  first = entryAt right left (record { x = k % 160 * 4; y = k / 160 })
+    abbrev first : ℕ
+    first = entryOf n right left (4 * k)
 
-  picked : (j : ℕ) → j < 4 → getD (first ∷ entry 1 ∷ entry 2 ∷ entry 3 % 4 ∷ []) j 0 ≡ entry j
-  picked zero h = rw (add-zero (k % 160 * 4))
-  picked (suc zero) h = refl
-  picked (suc (suc zero)) h = refl
-  picked (suc (suc (suc zero))) h = omega (arith, entry-bound right left (record { x = k % 160 * 4 + 3; y = k / 160 }))
-  picked (suc (suc (suc (suc j)))) h = absurd (omega arith)
+    picked : (j : ℕ) → j < 4 → getD (first ∷ entry 1 ∷ entry 2 ∷ entry 3 % 4 ∷ []) j 0 ≡ entry j
+    picked zero h = rw (add-zero (4 * k))
+    picked (suc zero) h = refl
+    picked (suc (suc zero)) h = refl
+    picked (suc (suc (suc zero))) h = omega (arith, entry-of-bound (4 * k + 3))
+    picked (suc (suc (suc (suc j)))) h = absurd (omega arith)
 
-  byte-pixel : (j : ℕ) → j < 4 → byteAt right left k / 2 ^ (j * 2) % 4 ≡ entry j
-  unfolding byteAt
-  byte-pixel j h =
-      unpack first (entry 1) (entry 2) (entry 3) j (entry-bound right left _) (entry-bound right left _) (entry-bound right left _) h ∙ picked j h
+    byte-pixel : (j : ℕ) → j < 4 → byteAt n right left k / 2 ^ (j * 2) % 4 ≡ entry j
+    unfolding byteAt
+    byte-pixel j h =
+        unpack first (entry 1) (entry 2) (entry 3) j (entry-of-bound _) (entry-of-bound _) (entry-of-bound _) h ∙ picked j h
 
-module _ (right left memory : List ℕ) where
+module _ (n : Bool) (right left memory : List ℕ) where
   -- the memory keeps its length, and every byte past the picture
-  pub drawn-length : length (drawn right left memory) ≡ length memory
+  pub drawn-length : length (drawn n right left memory) ≡ length memory
   unfolding drawn
   drawn-length = rw (length-append, run-length, length-drop) (omega arith)
 
-  pub drawn-kept : (k : ℕ) → size ≤ k → getD (drawn right left memory) k 0 ≡ getD memory k 0
+  pub drawn-kept : (k : ℕ) → size n ≤ k → getD (drawn n right left memory) k 0 ≡ getD memory k 0
   unfolding drawn
-  drawn-kept k h = go (leb size (length memory)) refl
+  drawn-kept k h = go (leb (size n) (length memory)) refl
     where
-      go : (b : Bool) → leb size (length memory) ≡ b → getD (drawn right left memory) k 0 ≡ getD memory k 0
+      go : (b : Bool) → leb (size n) (length memory) ≡ b → getD (drawn n right left memory) k 0 ≡ getD memory k 0
       go true t =
-          let long = leb-true size (length memory) t in
-          let whole : min (length memory) size ≡ size = omega (arith, long) in
-          let at : k ≡ length (run (byteAt right left) 0 size) + (k - size) = rw run-length (omega arith) in
-          let back : size + (k - size) ≡ k = omega arith in
-          rw whole (ap (λ (n : ℕ). getD (run (byteAt right left) 0 size ++ drop size memory) n 0) at
-          ∙ getD-append-add (run (byteAt right left) 0 size) (drop size memory) (k - size) 0
-          ∙ getD-drop size memory (k - size) 0 ∙ ap (λ (n : ℕ). getD memory n 0) back)
+          let long = leb-true (size n) (length memory) t in
+          let whole : min (length memory) (size n) ≡ size n = omega (arith, long) in
+          let at : k ≡ length (run (byteAt n right left) 0 (size n)) + (k - size n) = rw run-length (omega arith) in
+          let back : size n + (k - size n) ≡ k = omega arith in
+          rw whole (ap (λ (i : ℕ). getD (run (byteAt n right left) 0 (size n) ++ drop (size n) memory) i 0) at
+          ∙ getD-append-add (run (byteAt n right left) 0 (size n)) (drop (size n) memory) (k - size n) 0
+          ∙ getD-drop (size n) memory (k - size n) 0 ∙ ap (λ (i : ℕ). getD memory i 0) back)
       go false t =
-          let short = leb-false size (length memory) t in
+          let short = leb-false (size n) (length memory) t in
           let past : length memory ≤ k = omega (arith, short) in
-          let gone : length (drawn right left memory) ≤ k = rw (drawn-length) past in
-          List·getD-eq-default (drawn right left memory) 0 gone ∙ sym (List·getD-eq-default memory 0 past)
+          let gone : length (drawn n right left memory) ≤ k = rw (drawn-length) past in
+          List·getD-eq-default (drawn n right left memory) 0 gone ∙ sym (List·getD-eq-default memory 0 past)
 
   -- a byte of the picture
-  pub drawn-byte : (k : ℕ) → k < size → k < length memory → getD (drawn right left memory) k 0 ≡ byteAt right left k
+  pub drawn-byte : (k : ℕ) → k < size n → k < length memory → getD (drawn n right left memory) k 0 ≡ byteAt n right left k
   unfolding drawn
   drawn-byte k h l =
-      rw (List·getD-append (run (byteAt right left) 0 (min (length memory) size)) (drop size memory) 0 k (rw run-length (omega arith)))
-      (run-entry (byteAt right left) 0 (min (length memory) size) k 0 (omega arith) ∙ ap (byteAt right left) (omega arith))
+      rw (List·getD-append (run (byteAt n right left) 0 (min (length memory) (size n))) (drop (size n) memory) 0 k (rw run-length (omega arith)))
+      (run-entry (byteAt n right left) 0 (min (length memory) (size n)) k 0 (omega arith) ∙ ap (byteAt n right left) (omega arith))
 
-  -- THE PIXEL THAT THE MACHINE READS at 2 bits, at place y x 640 + x, has that entry
-  pub drawn-pixel : size ≤ length memory → (p : Point) → p .x < 640 → p .y < 480 → pixelAt 2 (drawn right left memory) (p .y * 640 + p .x) ≡ entryAt right left p
-  drawn-pixel room p h l =
-      let place = p .y * 640 + p .x in
-      pixel-inside 4 2 refl place (drawn right left memory)
-      ∙ rw (drawn-byte (place / 4) (omega arith) (omega arith)) (byte-pixel right left (place / 4) (place % 4) (omega arith))
-      ∙ ap (entryAt right left) (same-point p (place / 4 % 160 * 4 + place % 4) (place / 4 / 160) (omega arith) (omega arith))
+  module _ (room : size n ≤ length memory) where
+    -- what the machine reads at 2 bits, at a place of the picture
+    drawn-place : (place : ℕ) → place < 4 * size n → pixelAt 2 (drawn n right left memory) place ≡ entryOf n right left place
+    drawn-place place h =
+        let back : 4 * (place / 4) + place % 4 ≡ place = omega arith in
+        pixel-inside 4 2 refl place (drawn n right left memory)
+        ∙ rw (drawn-byte (place / 4) (omega arith) (omega arith)) (byte-pixel n right left (place / 4) (place % 4) (omega arith))
+        ∙ ap (entryOf n right left) back
+
+    -- THE PIXEL THAT THE MACHINE READS at the place of a pixel of the chart has that pixel's entry
+    pub drawn-pixel : (p : Point) → p .x < 640 → p .y < 480 → pixelAt 2 (drawn n right left memory) (placeOf n p) ≡ entryAt right left p
+    unfolding entryOf
+    drawn-pixel p h l =
+        drawn-place (placeOf n p) (place-inside n p h l) ∙ rw (place-holds n p h l) (ap (entryAt right left) (place-pixel n p h l))
+
+    -- and at any other it reads paper
+    pub drawn-paper : (place : ℕ) → place < 4 * size n → holds n place ≡ false → pixelAt 2 (drawn n right left memory) place ≡ paperEntry
+    unfolding entryOf
+    drawn-paper place h e = drawn-place place h ∙ rw e

@@ -1,4 +1,5 @@
--- An audiogram's picture: its form, and each pixel's palette entry.
+-- An audiogram's picture: its form, each pixel's palette entry, and where the pixels lie.
 pub mod Picture
+pub mod Places
 pub mod Entry
 pub mod Form

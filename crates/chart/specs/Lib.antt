@@ -1,2 +1,3 @@
--- The machine after the script's register writes.
+-- The machine after the script's register writes, and what the script shows.
 pub mod Started
+pub mod Shown

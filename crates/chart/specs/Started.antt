@@ -1,5 +1,6 @@
 -- The machine after the script's register writes, in the order in which they stand there. Assumes nothing.
 use Prim.Native.Nat.{ℕ}
+use mathlib.Core.Bool.{Bool}
 use mathlib.Core.List.{List, [], _∷_, _++_}
 use Rattle.machine.specs.Rules.{beginning, written}
 use Rattle.machine.specs.Calls.{Call, write, afterAll}
@@ -18,8 +19,8 @@ refusals m (setting ∷ rest) =
     written m (addressOf setting) (valueOf setting) .refusal ∷ refusals (written m (addressOf setting) (valueOf setting) .machine) rest
 
 -- every register write of the script, from the beginning on
-abbrev pub table : List ℕ
-table = settings ++ (start ∷ [])
+abbrev pub table : Bool → List ℕ
+table interlaced = settings interlaced ++ (start interlaced ∷ [])
 
-unfoldable pub started : Machine
-started = afterAll beginning (writesOf table)
+unfoldable pub started : Bool → Machine
+started interlaced = afterAll beginning (writesOf (table interlaced))

@@ -1,4 +1,5 @@
-// Reads a patient's thresholds on standard input and writes the bench script that draws their chart; a wrong line is named on standard error.
+// Reads a patient's thresholds on standard input and writes the bench script that draws their chart, in today's rooms or, asked by the word
+// `interlaced`, in the oldest; a wrong line is named on standard error.
 use input::LINE;
 use patient::level;
 use patient::thresholds;
@@ -13,9 +14,15 @@ struct Desk {
     fault: u32,
 }
 
-// The picture memory of a chart.
-fn picture_room() -> [u8; 76800] {
-    [0; 76800]
+// The room that a script is asked for, and whether there is such a room.
+struct Asked {
+    known: bool,
+    interlaced: bool,
+}
+
+// The picture memory of a chart, in any room.
+fn picture_room() -> [u8; 77824] {
+    [0; 77824]
 }
 
 // Writes what waits.
@@ -69,16 +76,30 @@ fn pokes(out: &mut [u8], at: usize, memory: &[u8]) -> usize {
     waiting
 }
 
-// The whole script: the registers and the palette, the memory, the start; a frame's ticks, the picture and its checksums.
-fn script_for(chart: Chart, out: &mut [u8]) {
+// The size of the memory that is lent.
+fn put_memory(out: &mut [u8], at: usize, size: usize) -> usize {
+    let word = room::put(out, at, b"memory ");
+    let number = text::put_decimal(out, word, size as u64);
+    room::put(out, number, b"\n")
+}
+
+// The whole script: the registers and the palette, the memory, the start; a frame's ticks, the picture and its checksums, of each field.
+fn script_for(chart: Chart, interlaced: bool, out: &mut [u8]) {
     let mut memory = picture_room();
-    audiogram::draw(chart, &mut memory);
-    let set = settings::put_settings(out, 0);
-    let size = room::put(out, set, b"memory 76800\n");
-    let poked = pokes(out, size, &memory);
+    let size = audiogram::size_of(interlaced);
+    audiogram::draw(chart, interlaced, &mut memory);
+    let set = settings::put_settings(out, 0, interlaced);
+    let lent = put_memory(out, set, size);
+    let poked = pokes(out, lent, room::lent(&memory, size));
     let room = spaced(out, poked);
-    let started = settings::put_start(out, room);
-    let end = room::put(out, started, b"run 105000\npicture 921600\nnine\n");
+    let started = settings::put_start(out, room, interlaced);
+    let end = room::put_either(
+        out,
+        started,
+        interlaced,
+        b"run 51450\nnine\nrun 51450\npicture 923520\nnine\n",
+        b"run 105000\npicture 921600\nnine\n",
+    );
     write_out(out, end);
 }
 
@@ -152,13 +173,35 @@ fn read_all() -> Desk {
     desk
 }
 
+// The room that the program's words ask for: today's by none, the oldest by `interlaced` alone.
+fn asked_room() -> Asked {
+    let mut word = [0u8; 16];
+    let words = os::arg_count();
+    let length = os::arg(1, &mut word);
+    let interlaced = check::same(room::lent(&word, length), b"interlaced");
+    Asked {
+        known: (words < 2) | ((words == 2) & interlaced),
+        interlaced,
+    }
+}
+
 fn main() {
     let mut out = io::large_buffer();
+    let asked = asked_room();
+    if !asked.known {
+        let end = room::put(
+            &mut out,
+            0,
+            b"chart: no such room; usage: chart < PATIENT, or chart interlaced < PATIENT\n",
+        );
+        io::write_all(2, room::lent(&out, end));
+        return;
+    }
     let desk = read_all();
     if desk.fault != 0 {
         complain(desk.lines, desk.fault, &mut out);
         return;
     }
     let chart = desk.chart;
-    script_for(chart, &mut out);
+    script_for(chart, asked.interlaced, &mut out);
 }

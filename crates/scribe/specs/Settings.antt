@@ -1,6 +1,7 @@
--- The script's register writes, as text from one table. Assumes nothing.
+-- The script's register writes, as text from a table. Assumes nothing.
 use Prim.Native.Nat.{ℕ, _+_, _*_, _/_, _%_}
-use mathlib.Core.List.{List, [], _∷_}
+use mathlib.Core.Bool.{Bool, cond}
+use mathlib.Core.List.{List, [], _∷_, _++_}
 use lib.ListN.{length, getD}
 use Rattle.room.specs.Room.{textsOf}
 use Rattle.text.specs.Ascii.{ascii}
@@ -17,9 +18,9 @@ addressOf setting = setting / 0x1000000 % 0x1000000
 abbrev pub valueOf : ℕ → ℕ
 valueOf setting = setting % 0x1000000
 
--- a monitor's 640 by 480 at 60 Hz, in screen units of four pixels and half lines; the mask, the top and the palette
-abbrev pub settings : List ℕ
-settings =
+-- today's rooms: a monitor's 640 by 480 at 60 Hz, in screen units of four pixels and half lines
+abbrev pub screen : List ℕ
+screen =
     at 0x021 12 ∷  -- HalfSync
     at 0x022 12 ∷  -- BackPorch
     at 0x023 160 ∷  -- Display
@@ -34,6 +35,30 @@ settings =
     at 0x02C 0 ∷  -- LineStart
     at 0x02D 1016 ∷  -- MemInit
     at 0x02E 8 ∷  -- TransferDelay
+    []
+
+-- the oldest rooms: a monitor of 525 interlaced lines, 15.7 thousand a second
+abbrev pub interlacedScreen : List ℕ
+interlacedScreen =
+    at 0x021 7 ∷  -- HalfSync
+    at 0x022 16 ∷  -- BackPorch
+    at 0x023 160 ∷  -- Display
+    at 0x024 62 ∷  -- ShortDisplay
+    at 0x025 84 ∷  -- BroadPulse
+    at 0x026 6 ∷  -- VSync
+    at 0x027 6 ∷  -- VPreEqualise
+    at 0x028 6 ∷  -- VPostEqualise
+    at 0x029 26 ∷  -- VBlank
+    at 0x02A 481 ∷  -- VDisplay
+    at 0x02B 196 ∷  -- LineTime
+    at 0x02C 0 ∷  -- LineStart
+    at 0x02D 1016 ∷  -- MemInit
+    at 0x02E 8 ∷  -- TransferDelay
+    []
+
+-- the mask, the top and the palette, the same in all rooms
+abbrev pub colours : List ℕ
+colours =
     at 0x040 0xFFFFFF ∷  -- mask
     at 0x080 0 ∷  -- top of screen
     at 0x100 0xFFFFFF ∷  -- paper
@@ -42,9 +67,12 @@ settings =
     at 0x103 0x606060 ∷  -- form
     []
 
--- control A: the generator runs at 2 bits a pixel with the cursor off
-abbrev pub start : ℕ
-start = at 0x060 0x900001
+abbrev pub settings : Bool → List ℕ
+settings interlaced = cond interlaced interlacedScreen screen ++ colours
+
+-- control A: the generator runs at 2 bits a pixel with the cursor off; interlaced, with increment code 01 beside
+abbrev pub start : Bool → ℕ
+start interlaced = at 0x060 (cond interlaced 0x901003 0x900001)
 
 -- `write ADDRESS VALUE` and the line's end
 abbrev pub writeTexts : ℕ → ℕ → List (List ℕ)
@@ -54,8 +82,8 @@ writeTexts address value = ascii "write " ∷ hexText address ∷ ascii " " ∷ 
 abbrev pub settingTexts : ℕ → List (List ℕ)
 settingTexts setting = writeTexts (addressOf setting) (valueOf setting)
 
-abbrev pub settingsTexts : List (List ℕ)
-settingsTexts = textsOf (λ i. settingTexts (getD settings i 0)) (length settings)
+abbrev pub settingsTexts : Bool → List (List ℕ)
+settingsTexts interlaced = textsOf (λ i. settingTexts (getD (settings interlaced) i 0)) (length (settings interlaced))
 
-abbrev pub startTexts : List (List ℕ)
-startTexts = settingTexts start
+abbrev pub startTexts : Bool → List (List ℕ)
+startTexts interlaced = settingTexts (start interlaced)

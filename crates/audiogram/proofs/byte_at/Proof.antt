@@ -1,6 +1,9 @@
 -- `audiogram::byte_at` meets its contract. Assumes nothing.
+use mathlib.Core.Path.{sym, _∙_, ap}
 use native.Mathlib.Omega.{arith}
-use Rattle.audiogram.proofs.Cases.{byte-made}
+use Rattle.audiogram.specs.Picture.{fourFrom}
+use Rattle.audiogram.proofs.Cases.{byte-held, byte-paper}
+use Rattle.audiogram.proofs.Places.{size-most}
 use Rattle.audiogram.proofs.byte_at.Statement.{statement}
 use Rattle.audiogram.proofs.byte_at.Tie as tie
 
@@ -8,22 +11,8 @@ pub byte-at-spec : {M : Type 1} → statement M
 byte-at-spec =
     tie.close
     (tie.spec
-    (λ c. omega arith)
-    (λ c. omega arith)
-    (λ c. omega arith)
-    (λ c κs. tt)
-    (λ c κs. tt)
-    (λ c κs. tt)
-    (λ c. omega arith)
-    (λ c κs. tt)
-    (λ c. omega arith)
-    (λ c κs. tt)
-    (λ c. omega arith)
-    (λ c κs. tt)
-    (λ c. omega arith)
-    (λ c. omega arith)
-    (λ c. omega arith)
-    (λ c. omega arith)
-    (λ c. omega arith)
-    (λ c. omega arith)
-    (λ c. byte-made _ _ (c .before .before .before .before .before .before .args .i) _ _ _ _ _ _ (c .before .before .before .before .before .is-near .ensures) (c .before .before .before .before .is-near2 .ensures) (c .before .before .before .entry-near .ensures .0) (c .before .before .entry-near2 .ensures .0) (c .before .entry-near3 .ensures .0) (c .entry-near4 .ensures .0)))
+    (λ c. omega (arith, size-most (c .args .interlaced)))
+    (λ c κs. c .pre)
+    (λ c κs. c .before .four-at .ensures .1 .1)
+    (λ c. c .four-from .ensures ∙ ap (fourFrom _ _) (c .before .before .four-at .ensures .1 .0) ∙ byte-held _ _ _ _ (sym (c .before .before .four-at .ensures .0) ∙ c .before .if1 .taken))
+    (λ c. byte-paper _ _ _ _ (sym (c .before .four-at .ensures .0) ∙ c .if1 .left)))

@@ -13,11 +13,11 @@ use Rattle.audiogram.proofs.draw.Statement.{statement}
 use Rattle.audiogram.proofs.draw.Tie as tie
 
 abbrev Inv-loop : tie.InvT-loop
-Inv-loop memory₀ right left end i₀ memory i =
-    (i ≤ end) × (memory ≡ run (byteAt right left) 0 i ++ drop i memory₀)
+Inv-loop interlaced memory₀ right left end i₀ memory i =
+    (i ≤ end) × (memory ≡ run (byteAt interlaced right left) 0 i ++ drop i memory₀)
 
 abbrev μ-loop : tie.MeasureT-loop
-μ-loop memory₀ right left end i₀ memory i = end - i
+μ-loop interlaced memory₀ right left end i₀ memory i = end - i
 
 loop-holds : tie.Need-loop-holds Inv-loop μ-loop
 loop-holds c = (omega arith, laid-none _ _)
@@ -29,7 +29,7 @@ slice-write-memory : tie.Need-slice-write-memory Inv-loop μ-loop
 slice-write-memory c =
     let l = c .before .before .before .before .loop in
     let a = c .before .before .before .before .before .before .before .before .before .args in
-    omega (arith, ap length (l .inv .1), laid-length (byteAt (a .chart .right) (a .chart .left)) (a .memory .now) (l .i) (omega arith))
+    omega (arith, ap length (l .inv .1), laid-length (byteAt (a .interlaced) (a .chart .right) (a .chart .left)) (a .memory .now) (l .i) (omega arith))
 
 loop-again : tie.Need-loop-again Inv-loop μ-loop
 loop-again c =
@@ -40,7 +40,7 @@ same-length : tie.Need-same-length Inv-loop μ-loop
 same-length c = ap length (c .before .loop .inv .1) ∙ laid-length _ _ _ (omega arith)
 
 returns : tie.Need-returns Inv-loop μ-loop
-returns c = let l = c .before .loop in laid-whole _ _ _ _ (l .i) (omega arith) (l .inv .1)
+returns c = let l = c .before .loop in laid-whole _ _ _ _ _ (l .i) (omega arith) (l .inv .1)
 
 pub draw-spec : {M : Type 1} → statement M
 draw-spec =
