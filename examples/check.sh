@@ -1,39 +1,60 @@
 #!/bin/sh
-# check.sh: tries wrong sheets, then draws each patient of this folder through the machine and holds the picture to what the file says.
-# Nothing here comes from the chart program: where a mark must stand is worked out from the file in awk, by the audiogram's axes
-# (an octave is 64 pixels from 125 Hz at column 112, 10 dB are 32 pixels from -10 dB at line 36).
+# check.sh: tries wrong words and wrong sheets, then draws each patient of this folder through the machine, for today's rooms and for interlaced
+# ones, and holds the picture to what the file says. Nothing here comes from the chart program: where a mark must stand is worked out from the
+# file in awk, by the audiogram's axes (an octave is 64 pixels from 125 Hz at column 112, 10 dB are 32 pixels from -10 dB at line 36).
 set -eu
 here=$(cd "$(dirname "$0")" && pwd -P)
 chart=$("$here/../run" --command chart)
-bench=$("$here/../run" --command bench)
-answers=$(mktemp)
-trap 'rm -f "$answers"' EXIT
+draw=$("$here/../run" --command draw)
+temp=$(mktemp -d)
+trap 'rm -rf "$temp"' EXIT
 trap 'exit 1' HUP INT TERM
-chart() { eval "$chart"; }
-bench() { eval "$bench"; }
-# wrong SHEET MESSAGE: the sheet gets that message on standard error and nothing on standard output.
+chart() { eval "$chart" '"$@"'; }
+draw() { eval "$draw"; }
+fault() { echo "$1"; exit 1; }
+
+# wrong SHEET MESSAGE [WORDS..]: the sheet, asked for with the words, gets that message on standard error and nothing on standard output.
 wrong() {
-    printf "$1" | chart 2>&1 >"$answers" | grep -qxF "$2" || { echo "no '$2'"; exit 1; }
-    [ ! -s "$answers" ] || { echo "a script after '$2'"; exit 1; }
+    sheet=$1 message=$2
+    shift 2
+    said=$(printf "$sheet" | chart "$@" 2>&1 >"$temp/script")
+    [ "$said" = "$message" ] || fault "'$said', and '$message' is right"
+    [ ! -s "$temp/script" ] || fault "a script after '$message'"
 }
-wrong '1100 0 0\n' 'line 1: unknown frequency'
-wrong '; Hz\n\n1000 0 0\n1000 5 5\n' 'line 4: frequency given twice'
-wrong '125 0 0\r\n1000 0\r\n' 'line 2: missing ear'
-wrong '1000\t0 0 0' 'line 1: too many words'
-wrong '1000 x 0\n' 'line 1: level not a number'
-wrong '1000 0 125\n' 'line 1: level out of range, -10 to 120'
-wrong '1000 -15 0\n' 'line 1: level out of range, -10 to 120'
-wrong '1000 0 12\n250 0\n' 'line 1: level not a step of 5'
-wrong "$(printf '%1001s' 250) 0 0\n" 'line 1: line too long'
-wrong "$(printf '125 0 0\n%1200s' 250) 0 0\n" 'line 2: line too long'
-echo "ten wrong sheets: each named, and no script"
-for patient in "$here"/*.txt; do
-    chart <"$patient" | bench >"$answers"
-    awk -v name="$(basename "$patient" .txt)" '
+room='chart: no such room; usage: chart < PATIENT, or chart interlaced < PATIENT'
+wrong '1000 0 0\n' "$room" interlace
+wrong '1000 0 0\n' "$room" interlaced.
+wrong '1000 0 0\n' "$room" Interlaced
+wrong '1000 0 0\n' "$room" ''
+wrong '1000 0 0\n' "$room" interlaced interlaced
+wrong '1000 0 0\n' "$room" interlaced ''
+echo "six wrong words: each told, and no script"
+for word in '' interlaced; do
+    wrong '1100 0 0\n' 'line 1: unknown frequency' $word
+    wrong '; Hz\n\n1000 0 0\n1000 5 5\n' 'line 4: frequency given twice' $word
+    wrong '125 0 0\r\n1000 0\r\n' 'line 2: missing ear' $word
+    wrong '1000\t0 0 0' 'line 1: too many words' $word
+    wrong '1000 x 0\n' 'line 1: level not a number' $word
+    wrong '1000 0 125\n' 'line 1: level out of range, -10 to 120' $word
+    wrong '1000 -15 0\n' 'line 1: level out of range, -10 to 120' $word
+    wrong '1000 0 12\n250 0\n' 'line 1: level not a step of 5' $word
+    wrong "$(printf '%1001s' 250) 0 0\n" 'line 1: line too long' $word
+    wrong "$(printf '125 0 0\n%1200s' 250) 0 0\n" 'line 2: line too long' $word
+done
+echo "ten wrong sheets, for both rooms: each named, and no script"
+
+# drawn NAME PICTURE ABOVE [WORD]: the patient's chart as PICTURE.ppm, with so many rows above the chart's line 0 and below its last; and held to the file.
+drawn() {
+    name=$1 picture=$temp/$2.ppm above=$3
+    shift 3
+    { chart "$@" <"$patient" | draw >"$picture"; } 2>"$temp/said"
+    [ ! -s "$temp/said" ] || fault "$name: $(head -n 1 "$temp/said")"
+    { printf 'P6\n640 %d\n255\n' $((480 + 2 * above)); tail -c +16 "$picture"; } | cmp -s - "$picture" || fault "$name: not the head of its picture"
+    # a row of the picture is a line here, and a pixel 9 characters, as " ff 00 00"
+    tail -c +16 "$picture" | od -An -v -tx1 -w1920 | awk -v name="$name" -v above="$above" '
     function octaves(hz) { return hz == 750 ? 2.5 : hz == 1500 ? 3.5 : hz == 3000 ? 4.5 : hz == 6000 ? 5.5 : log(hz / 125) / log(2) }
     function wrong(what) { print name ": " what; bad = 1; exit 1 }
-    function byte(n) { return substr(row[int(n / 32)], n % 32 * 2 + 1, 2) }
-    function pixel(x, y,   n) { n = (y * 640 + x) * 3; return byte(n) byte(n + 1) byte(n + 2) }
+    function pixel(x, y) { return substr(row[y + above], 9 * x + 2, 8) }
     # the distance of (x, y) from what an ear has drawn: its marks, the lines between them, its key
     function off(x, y, ear,   k, d, best, dx, dy, t) {
         best = 1000
@@ -52,6 +73,7 @@ for patient in "$here"/*.txt; do
         if (count[ear]) { d = sqrt((x - 556) ^ 2 + (y - (ear == 1 ? 52 : 84)) ^ 2) - 9; if (d < best) best = d }
         return best
     }
+    BEGIN { red = "ff 00 00"; blue = "00 00 ff"; white = "ff ff ff"; grey = "60 60 60"; black = "00 00 00" }
     NR == FNR && (/^[ \t]*;/ || NF == 0) { next }
     NR == FNR {
         for (ear = 1; ear <= 2; ear++) if ($(ear + 1) != "-") {
@@ -59,27 +81,44 @@ for patient in "$here"/*.txt; do
         }
         next
     }
-    /^(error|refused)/ { wrong("the machine answers " $0) }
-    /^[0-9A-F]+$/ && length($0) == 64 { row[rows++] = $0 }
+    { row[rows++] = $0 }
     END {
         if (bad) exit 1
-        if (rows * 32 != 640 * 480 * 3) wrong("no whole picture")
+        if (rows != 480 + 2 * above || length(row[rows - 1]) != 9 * 640) wrong("no whole picture")
         for (k = 1; k <= count[1]; k++) {
             x = px[1, k]; y = py[1, k]
-            if (pixel(x + 7, y) pixel(x - 7, y) pixel(x, y + 7) pixel(x, y - 7) != "FF0000FF0000FF0000FF0000") wrong("no red circle at " x ", " y)
-            if (pixel(x + 5, y + 5) == "FF0000" && off(x + 5, y + 5, 1) > -7 && pixel(x, y) == "FF0000") wrong("a filled circle at " x ", " y)
+            if (pixel(x + 7, y) != red || pixel(x - 7, y) != red || pixel(x, y + 7) != red || pixel(x, y - 7) != red) wrong("no red circle at " x ", " y)
+            if (pixel(x + 5, y + 5) == red && off(x + 5, y + 5, 1) > -7 && pixel(x, y) == red) wrong("a filled circle at " x ", " y)
         }
         for (k = 1; k <= count[2]; k++) for (i = -5; i <= 5; i += 10) for (j = -5; j <= 5; j += 10) {
             x = px[2, k] + i; y = py[2, k] + j; c = pixel(x, y)
-            if (c != "0000FF" && !(c == "FF0000" && off(x, y, 1) <= 0)) wrong("no blue cross at " px[2, k] ", " py[2, k])
+            if (c != blue && !(c == red && off(x, y, 1) <= 0)) wrong("no blue cross at " px[2, k] ", " py[2, k])
         }
-        for (y = 0; y < 480; y++) for (x = 0; x < 640; x++) {
-            c = pixel(x, y)
-            if (c == "FF0000") { red++; if (off(x, y, 1) > 0) wrong("red at " x ", " y " where the right ear has nothing") }
-            else if (c == "0000FF") { blue++; if (off(x, y, 2) > 0) wrong("blue at " x ", " y " where the left ear has nothing") }
-            else if (c != "FFFFFF" && c != "606060") wrong("colour " c " at " x ", " y)
+        for (y = 0; y < 480; y++) {
+            line = row[y + above]
+            for (x = 0; x < 640; x++) {
+                c = substr(line, 9 * x + 2, 8)
+                if (c == white || c == grey) continue
+                if (c == red) { reds++; if (off(x, y, 1) > 0) wrong("red at " x ", " y " where the right ear has nothing") }
+                else if (c == blue) { blues++; if (off(x, y, 2) > 0) wrong("blue at " x ", " y " where the left ear has nothing") }
+                else wrong("colour " c " at " x ", " y)
+            }
         }
-        if ((count[1] == 0) != (red == 0) || (count[2] == 0) != (blue == 0)) wrong("an ear is shown that was not measured, or not shown that was")
-        print name ": " count[1] + 0 " circles in " red + 0 " red pixels, " count[2] + 0 " crosses in " blue + 0 " blue pixels, and none elsewhere"
-    }' "$patient" "$answers"
+        if ((count[1] == 0) != (reds == 0) || (count[2] == 0) != (blues == 0)) wrong("an ear is shown that was not measured, or not shown that was")
+        # the two half rows: a line is 196 units of four pixels, half of it is 98, and Display begins 30 units in, so they part at column 272
+        if (above) for (x = 0; x < 640; x++) {
+            if (pixel(x, -1) != (x < 272 ? black : white)) wrong("colour " pixel(x, -1) " in column " x " of the first row, which is a second half")
+            if (pixel(x, 480) != (x < 272 ? white : black)) wrong("colour " pixel(x, 480) " in column " x " of the last row, which is a first half")
+        }
+        print name ": " count[1] + 0 " circles in " reds + 0 " red pixels, " count[2] + 0 " crosses in " blues + 0 " blue pixels, and none elsewhere"
+    }' "$patient" -
+}
+
+for patient in "$here"/*.txt; do
+    name=$(basename "$patient" .txt)
+    drawn "$name" today 0
+    drawn "$name, interlaced" woven 1 interlaced
+    # between its half rows the woven picture is today's to the byte
+    { head -c 15 "$temp/today.ppm"; tail -c +1936 "$temp/woven.ppm" | head -c 921600; } | cmp - "$temp/today.ppm" || fault "$name: the rooms show two charts"
 done
+echo "interlaced: between its two half rows each chart is today's to the byte"

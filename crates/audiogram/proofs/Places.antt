@@ -8,15 +8,11 @@ use lib.Dec.{ltb, leb}
 use borrow.Author.Tests.{leb-true, leb-false, lt-ltb, le-leb, lt-leb}
 use Rattle.base.proofs.Bools.{both-hold}
 use Rattle.marks.specs.declared.points.Point.{Point}
-use Rattle.audiogram.specs.Places.{width, height, fields, rowPixels, above, fieldOf, numberOf, placeOf, fieldAt, numberAt, chartAt, holds, pixelOf}
+use Rattle.audiogram.specs.Places.{width, height, fields, rowPixels, placeIn, above, fieldOf, numberOf, placeOf, fieldAt, numberAt, chartAt, holds, pixelOf}
 use Rattle.audiogram.specs.Picture.{size}
 
 same-point : (p : Point) (x y : ℕ) → x ≡ p .x → y ≡ p .y → _≡_ {A = Point} (record { x = x; y = y }) p
 same-point p x y e f = rw (e, f)
-
--- pixel i of a field, in memory
-abbrev inRows : Bool → ℕ → ℕ → ℕ
-inRows n f i = (i / rowPixels * fields n + f) * rowPixels + i % rowPixels
 
 row-back : (row i : ℕ) → (row * rowPixels + i % rowPixels) / rowPixels ≡ row
 row-back row i = omega arith
@@ -28,13 +24,18 @@ field-back : (n : Bool) (q f : ℕ) → f < fields n → ((q * fields n + f) % f
 field-back false q f h = (omega arith, omega arith)
 field-back true q f h = (omega arith, omega arith)
 
-rows-field : (n : Bool) (f i : ℕ) → f < fields n → fieldAt n (inRows n f i) ≡ f
+rows-field : (n : Bool) (f i : ℕ) → f < fields n → fieldAt n (placeIn n f i) ≡ f
 rows-field n f i h = rw (row-back (i / rowPixels * fields n + f) i) (field-back n (i / rowPixels) f h .0)
 
-rows-number : (n : Bool) (f i : ℕ) → f < fields n → numberAt n (inRows n f i) ≡ i
+rows-number : (n : Bool) (f i : ℕ) → f < fields n → numberAt n (placeIn n f i) ≡ i
 rows-number n f i h =
     let whole : i / rowPixels * rowPixels + i % rowPixels ≡ i = omega arith in
     rw (row-back (i / rowPixels * fields n + f) i, number-back (i / rowPixels * fields n + f) i, field-back n (i / rowPixels) f h .1) whole
+
+-- what a place of a field holds
+pub holds-rows : (n : Bool) (f i : ℕ) → f < fields n → holds n (placeIn n f i) ≡ (leb (above f) i && ltb ((i - above f) / width) (height / fields n))
+unfolding holds
+holds-rows n f i h = rw (rows-field n f i h, rows-number n f i h)
 
 -- ---- places and pixels
 
@@ -81,7 +82,7 @@ module _ (n : Bool) (p : Point) (h : p .x < width) (l : p .y < height) where
   unfolding placeOf
   place-inside = go n
     where
-      go : (k : Bool) → inRows k (fieldOf k p) (numberOf k p) < 4 * size k
+      go : (k : Bool) → placeIn k (fieldOf k p) (numberOf k p) < 4 * size k
       go false = omega arith
       go true =
           let i = numberOf true p in

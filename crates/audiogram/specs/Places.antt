@@ -15,9 +15,12 @@ height = 480
 abbrev pub fields : Bool → ℕ
 fields interlaced = cond interlaced 2 1
 
--- a row of picture memory has so many pixels, and the fields have the rows in turn
+-- a row of picture memory has so many pixels, and the fields have the rows in turn: the place of pixel i of a field
 abbrev pub rowPixels : ℕ
 rowPixels = 4096
+
+abbrev pub placeIn : Bool → ℕ → ℕ → ℕ
+placeIn interlaced field i = (i / rowPixels * fields interlaced + field) * rowPixels + i % rowPixels
 
 -- the second field begins with a half line above the chart, which lacks a line's first 272 pixels
 abbrev pub above : ℕ → ℕ
@@ -32,8 +35,7 @@ numberOf interlaced p = above (fieldOf interlaced p) + (p .y / fields interlaced
 
 -- WHICH PLACE HOLDS WHICH PIXEL of the chart
 unfoldable pub placeOf : Bool → Point → ℕ
-placeOf interlaced p =
-    (numberOf interlaced p / rowPixels * fields interlaced + fieldOf interlaced p) * rowPixels + numberOf interlaced p % rowPixels
+placeOf interlaced p = placeIn interlaced (fieldOf interlaced p) (numberOf interlaced p)
 
 -- the other way: the field of a place, and its number among the field's pixels
 abbrev pub fieldAt : Bool → ℕ → ℕ
