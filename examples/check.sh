@@ -29,6 +29,7 @@ wrong '1000 0 0\n' "$room" ''
 wrong '1000 0 0\n' "$room" interlaced interlaced
 wrong '1000 0 0\n' "$room" interlaced ''
 echo "six wrong words: each told, and no script"
+# no word, and the one word there is
 for word in '' interlaced; do
     wrong '1100 0 0\n' 'line 1: unknown frequency' $word
     wrong '; Hz\n\n1000 0 0\n1000 5 5\n' 'line 4: frequency given twice' $word
@@ -43,29 +44,31 @@ for word in '' interlaced; do
 done
 echo "ten wrong sheets, for both rooms: each named, and no script"
 
-# drawn NAME PICTURE ABOVE [WORD]: the patient's chart as PICTURE.ppm, with so many rows above the chart's line 0 and below its last; and held to the file.
+# drawn TITLE PICTURE ABOVE [WORD]: the patient's chart as a file, which has so many rows above the chart's line 0 and below its last, held to
+# what the patient's file says.
 drawn() {
-    name=$1 picture=$temp/$2.ppm above=$3
+    title=$1 picture=$2 above=$3
     shift 3
     { chart "$@" <"$patient" | draw >"$picture"; } 2>"$temp/said"
-    [ ! -s "$temp/said" ] || fault "$name: $(head -n 1 "$temp/said")"
-    { printf 'P6\n640 %d\n255\n' $((480 + 2 * above)); tail -c +16 "$picture"; } | cmp -s - "$picture" || fault "$name: not the head of its picture"
-    # a row of the picture is a line here, and a pixel 9 characters, as " ff 00 00"
-    tail -c +16 "$picture" | od -An -v -tx1 -w1920 | awk -v name="$name" -v above="$above" '
+    [ ! -s "$temp/said" ] || fault "$title: $(head -n 1 "$temp/said")"
+    { printf 'P6\n640 %d\n255\n' $((480 + 2 * above)); tail -c +16 "$picture"; } | cmp -s - "$picture" || fault "$title: not the head of its picture"
+    # each row becomes a line, and each pixel nine characters of it, as " ff 00 00"
+    tail -c +16 "$picture" | od -An -v -tx1 -w1920 | awk -v title="$title" -v above="$above" '
     function octaves(hz) { return hz == 750 ? 2.5 : hz == 1500 ? 3.5 : hz == 3000 ? 4.5 : hz == 6000 ? 5.5 : log(hz / 125) / log(2) }
-    function wrong(what) { print name ": " what; bad = 1; exit 1 }
+    function wrong(what) { print title ": " what; bad = 1; exit 1 }
     function pixel(x, y) { return substr(row[y + above], 9 * x + 2, 8) }
     # the distance of (x, y) from what an ear has drawn: its marks, the lines between them, its key
-    function off(x, y, ear,   k, d, best, dx, dy, t) {
+    function off(x, y, ear,   k, d, best, dx, dy, ex, ey, t) {
         best = 1000
         for (k = 1; k <= count[ear]; k++) {
             dx = x - px[ear, k]; dy = y - py[ear, k]
             d = sqrt(dx * dx + dy * dy) - 9
             if (d < best) best = d
             if (k < count[ear]) {
-                t = (dx * (px[ear, k + 1] - px[ear, k]) + dy * (py[ear, k + 1] - py[ear, k])) / ((px[ear, k + 1] - px[ear, k]) ^ 2 + (py[ear, k + 1] - py[ear, k]) ^ 2)
+                ex = px[ear, k + 1] - px[ear, k]; ey = py[ear, k + 1] - py[ear, k]
+                t = (dx * ex + dy * ey) / (ex * ex + ey * ey)
                 t = t < 0 ? 0 : t > 1 ? 1 : t
-                dx -= t * (px[ear, k + 1] - px[ear, k]); dy -= t * (py[ear, k + 1] - py[ear, k])
+                dx -= t * ex; dy -= t * ey
                 d = sqrt(dx * dx + dy * dy) - 1.5
                 if (d < best) best = d
             }
@@ -87,7 +90,7 @@ drawn() {
         if (rows != 480 + 2 * above || length(row[rows - 1]) != 9 * 640) wrong("no whole picture")
         for (k = 1; k <= count[1]; k++) {
             x = px[1, k]; y = py[1, k]
-            if (pixel(x + 7, y) != red || pixel(x - 7, y) != red || pixel(x, y + 7) != red || pixel(x, y - 7) != red) wrong("no red circle at " x ", " y)
+            if (pixel(x + 7, y) pixel(x - 7, y) pixel(x, y + 7) pixel(x, y - 7) != red red red red) wrong("no red circle at " x ", " y)
             if (pixel(x + 5, y + 5) == red && off(x + 5, y + 5, 1) > -7 && pixel(x, y) == red) wrong("a filled circle at " x ", " y)
         }
         for (k = 1; k <= count[2]; k++) for (i = -5; i <= 5; i += 10) for (j = -5; j <= 5; j += 10) {
@@ -107,18 +110,19 @@ drawn() {
         if ((count[1] == 0) != (reds == 0) || (count[2] == 0) != (blues == 0)) wrong("an ear is shown that was not measured, or not shown that was")
         # the two half rows: a line is 196 units of four pixels, half of it is 98, and Display begins 30 units in, so they part at column 272
         if (above) for (x = 0; x < 640; x++) {
-            if (pixel(x, -1) != (x < 272 ? black : white)) wrong("colour " pixel(x, -1) " in column " x " of the first row, which is a second half")
-            if (pixel(x, 480) != (x < 272 ? white : black)) wrong("colour " pixel(x, 480) " in column " x " of the last row, which is a first half")
+            if (pixel(x, -1) != (x < 272 ? black : white)) wrong("colour " pixel(x, -1) " in column " x " of the half row above")
+            if (pixel(x, 480) != (x < 272 ? white : black)) wrong("colour " pixel(x, 480) " in column " x " of the half row below")
         }
-        print name ": " count[1] + 0 " circles in " reds + 0 " red pixels, " count[2] + 0 " crosses in " blues + 0 " blue pixels, and none elsewhere"
+        print title ": " count[1] + 0 " circles in " reds + 0 " red pixels, " count[2] + 0 " crosses in " blues + 0 " blue pixels, and none elsewhere"
     }' "$patient" -
 }
 
+today=$temp/today.ppm woven=$temp/woven.ppm
 for patient in "$here"/*.txt; do
     name=$(basename "$patient" .txt)
-    drawn "$name" today 0
-    drawn "$name, interlaced" woven 1 interlaced
-    # between its half rows the woven picture is today's to the byte
-    { head -c 15 "$temp/today.ppm"; tail -c +1936 "$temp/woven.ppm" | head -c 921600; } | cmp - "$temp/today.ppm" || fault "$name: the rooms show two charts"
+    drawn "$name" "$today" 0
+    drawn "$name, interlaced" "$woven" 1 interlaced
+    # without its first row and its last, the woven picture has today's bytes
+    { head -c 15 "$today"; tail -c +1936 "$woven" | head -c 921600; } | cmp -s - "$today" || fault "$name: the two rooms show different charts"
 done
-echo "interlaced: between its two half rows each chart is today's to the byte"
+echo "between its two half rows, each interlaced chart is today's to the byte"

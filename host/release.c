@@ -1,7 +1,9 @@
 /* What a station's host does with the two calls of include/station.h.
 
-     release key CHECKSUM CHECKSUM   releases a key where the two checksums, in hexadecimal, match
-     release field TAG               shows one field of the sheet on standard input; TAG as 33 or 0x21
+     release key CHECKSUM CHECKSUM [CHECKSUM CHECKSUM]
+                         releases a key where the two checksums of each pair, in hexadecimal, match: the one seen and its reference,
+                         one pair for a picture of one field, two for an interlaced one, the first field's before the second's
+     release field TAG   shows one field of the sheet on standard input; TAG as 33 or 0x21
 
    Exit status: 0 the key was released, or the field shown; 1 it was not; 2 the words given make no sense. */
 #include "station.h"
@@ -13,6 +15,9 @@ enum { DONE = 0, REFUSED = 1, USAGE = 2 };
 
 /* More than a checksum has, so that one that is too long still reaches the call and gets its refusal. */
 enum { CHECKSUM_ROOM = 32 };
+
+/* The most that a picture has: an interlaced one has two. */
+enum { FIELDS = 2 };
 
 /* One byte more than a sheet has: enough to see that bytes are left over. */
 enum { SHEET_ROOM = 71 };
@@ -59,22 +64,43 @@ static int tag_of(const char *text, uint32_t *tag) {
     return good;
 }
 
-static int release_key(const char *first, const char *second) {
-    uint8_t a[CHECKSUM_ROOM], b[CHECKSUM_ROOM];
-    int a_len = bytes_of(first, a);
-    int b_len = a_len < 0 ? -1 : bytes_of(second, b);
-    if (b_len < 0) return USAGE;
-    uint64_t answer = station_compare_checksums(a, (size_t)a_len, b, (size_t)b_len);
-    if (answer == 1) {
-        printf("key released\n");
-        return DONE;
-    }
-    if (answer == 0) {
+struct checksum {
+    uint8_t bytes[CHECKSUM_ROOM];
+    int len;
+};
+
+/* Says why the key is kept. The field is named where there are two. */
+static void say_kept(uint64_t answer, int field, int fields) {
+    const char *name = field == 0 ? "first" : "second";
+    unsigned refusal = (unsigned)(answer >> 32);
+    if (answer == 0 && fields == 1) {
         printf("key kept: the checksums differ\n");
+    } else if (answer == 0) {
+        printf("key kept: the checksums of the %s field differ\n", name);
+    } else if (fields == 1) {
+        printf("key kept: refused %u\n", refusal);
     } else {
-        printf("key kept: refused %u\n", (unsigned)(answer >> 32));
+        printf("key kept: refused %u for the %s field\n", refusal, name);
     }
-    return REFUSED;
+}
+
+/* A field's sums cover its own lines alone, so one field's match says nothing of the other's: every pair must match. */
+static int release_key(char **words, int fields) {
+    struct checksum given[2 * FIELDS];
+    for (int i = 0; i < 2 * fields; i++) {
+        given[i].len = bytes_of(words[i], given[i].bytes);
+        if (given[i].len < 0) return USAGE;
+    }
+    for (int field = 0; field < fields; field++) {
+        const struct checksum *a = &given[2 * field], *b = a + 1;
+        uint64_t answer = station_compare_checksums(a->bytes, (size_t)a->len, b->bytes, (size_t)b->len);
+        if (answer != 1) {
+            say_kept(answer, field, fields);
+            return REFUSED;
+        }
+    }
+    printf("key released\n");
+    return DONE;
 }
 
 static int show_field(const char *word) {
@@ -96,8 +122,8 @@ static int show_field(const char *word) {
 }
 
 int main(int count, char **words) {
-    if (count == 4 && strcmp(words[1], "key") == 0) return release_key(words[2], words[3]);
+    if ((count == 4 || count == 6) && strcmp(words[1], "key") == 0) return release_key(words + 2, (count - 2) / 2);
     if (count == 3 && strcmp(words[1], "field") == 0) return show_field(words[2]);
-    fprintf(stderr, "usage: release key CHECKSUM CHECKSUM, or release field TAG with the sheet on standard input\n");
+    fprintf(stderr, "usage: release key CHECKSUM CHECKSUM [CHECKSUM CHECKSUM], or release field TAG with the sheet on standard input\n");
     return USAGE;
 }

@@ -41,6 +41,10 @@ is() { # STATUS LINE WORDS..   (a sheet on standard input)
     fi
 }
 
+other() { # NINE: the nine bytes with the one at `place` changed
+    printf '%s\n' "$1" | awk -v d=$((2 * place + 2)) '{ print substr($0, 1, d - 1) (substr($0, d, 1) == "0" ? "1" : "0") substr($0, d + 1) }'
+}
+
 released() {
     is 0 'key released' key 000000010203000000 000000010203000000 </dev/null
     is 0 'key released' key 00000001020300000a 00000001020300000A </dev/null
@@ -55,12 +59,33 @@ released() {
     is 1 'refused 30' field 0x21 </dev/null
     is 2 'release: not a tag: 4294967296' field 4294967296 <"$out/sheet"
     is 2 'release: not a tag: -1' field -1 <"$out/sheet"
-    # the test picture's nine bytes, as examples/test.nine has them, and the same with any one of them changed
-    nine=$(tr -d '# \n' <examples/test.nine)
+    # two fields: what was seen of each must match its own reference
+    a=000000010203000000 b=00000001020300000A
+    is 0 'key released' key "$a" "$a" "$b" 00000001020300000a </dev/null
+    is 1 'key kept: the checksums of the first field differ' key "$b" "$a" "$b" "$b" </dev/null
+    is 1 'key kept: the checksums of the second field differ' key "$a" "$a" "$a" "$b" </dev/null
+    is 1 'key kept: the checksums of the first field differ' key "$b" "$a" "$a" "$b" </dev/null
+    is 1 'key kept: refused 24 for the first field' key "$a" "${a}00" "$b" "$a" </dev/null
+    is 1 'key kept: refused 24 for the second field' key "$a" "$a" '' "$b" </dev/null
+    is 1 'key kept: the checksums of the first field differ' key "$b" "$a" '' "$b" </dev/null
+    is 2 'release: not hexadecimal: 00zz' key "$b" "$a" "$b" 00zz </dev/null
+    usage='usage: release key CHECKSUM CHECKSUM [CHECKSUM CHECKSUM], or release field TAG with the sheet on standard input'
+    is 2 "$usage" key </dev/null
+    is 2 "$usage" key "$a" </dev/null
+    is 2 "$usage" key "$a" "$a" "$b" </dev/null
+    is 2 "$usage" key "$a" "$a" "$b" "$b" "$a" </dev/null
+    is 2 "$usage" key "$a" "$a" "$b" "$b" "$a" "$a" </dev/null
+    is 2 "$usage" field "$a" "$a" "$b" "$b" </dev/null
+    # the test picture's nine bytes, as examples/test.nine has them, and each field's of the interlaced one; the same with any one of them changed
+    nine=$(tr -d '# ' <examples/test.nine)
+    set -- $(tr -d '# ' <examples/test-interlaced.nine)
     is 0 'key released' key "$nine" "$nine" </dev/null
+    is 0 'key released' key "$1" "$1" "$2" "$2" </dev/null
+    is 1 'key kept: the checksums of the first field differ' key "$2" "$1" "$1" "$2" </dev/null
     for place in 0 1 2 3 4 5 6 7 8; do
-        other=$(printf '%s\n' "$nine" | awk -v p="$place" '{ d = substr($0, 2 * p + 2, 1); print substr($0, 1, 2 * p + 1) (d == "0" ? "1" : "0") substr($0, 2 * p + 3) }')
-        is 1 'key kept: the checksums differ' key "$other" "$nine" </dev/null
+        is 1 'key kept: the checksums differ' key "$(other "$nine")" "$nine" </dev/null
+        is 1 'key kept: the checksums of the first field differ' key "$(other "$1")" "$1" "$2" "$2" </dev/null
+        is 1 'key kept: the checksums of the second field differ' key "$1" "$1" "$(other "$2")" "$2" </dev/null
     done
     echo 'release: every line and status as it should be'
 }

@@ -38,7 +38,10 @@ fn spot_at(interlaced: bool, i: u32) -> Spot
             number: row / 2 * 1024 + i % 1024,
         };
     }
-    Spot { field: 0, number: i }
+    Spot {
+        field: 0,
+        number: i,
+    }
 }
 
 // What a byte holds: four pixels of a line of the chart, from the first on, or none.

@@ -27,7 +27,7 @@ const SCREEN: [u64; 14] = [
 const INTERLACED: [u64; 14] = [
     0x021_000007, // HalfSync: twice 7 units of sync
     0x022_000010, // BackPorch
-    0x023_0000A0, // Display: 160 units are 640 pixels
+    0x023_0000A0, // Display: the same 640 pixels
     0x024_00003E, // ShortDisplay
     0x025_000054, // BroadPulse: half a line but for a sync
     0x026_000006, // VSync: 3 lines

@@ -1,6 +1,6 @@
 -- `scribe::settings::put_start` meets its contract. Assumes nothing.
 use Prim.Native.Nat.{ℕ}
-use mathlib.Core.Path.{_≡_, refl, _∙_, ap}
+use mathlib.Core.Path.{_≡_, _∙_, ap}
 use mathlib.Core.Bool.{Bool, true, false, cond}
 use Rattle.room.specs.Room.{putTexts, putEnds}
 use Rattle.scribe.specs.Settings.{writeTexts, startTexts}

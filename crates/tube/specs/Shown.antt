@@ -5,16 +5,17 @@ use mathlib.Core.Bool.{Bool, true, false, cond}
 use mathlib.Core.List.{List, [], _∷_}
 use mathlib.Core.Path.{_≡_}
 use lib.ListN.{length, getD, replicate}
-use Rattle.base.specs.Channels.{red, green, blue}
+use Rattle.base.specs.Channels.{red, green, blue, joined}
 use Rattle.machine.specs.declared.Machine.{Machine}
 use Rattle.picture.specs.Picture.{bufferOf}
 use Rattle.picture.specs.Machines.{ticked, pictured}
-use Rattle.weave.specs.Weave.{byteAt, byteOf}
+use Rattle.weave.specs.Weave
 use Rattle.calls.specs.Calls.{sizeOf}
 use Rattle.calls.specs.Woven.{weaveOf}
+use Rattle.marks.specs.Ear.{shows}
 use Rattle.audiogram.specs.Picture.{size, drawn}
 use Rattle.marks.specs.declared.points.Point.{Point}
-use Rattle.chart.specs.Started.{started}
+use Rattle.tube.specs.Started.{started}
 
 -- the memory that it lends, with the chart poked into it
 abbrev pub memoryOf : Bool → List ℕ → List ℕ → List ℕ
@@ -38,22 +39,51 @@ unfoldable pub picture : Bool → List ℕ → List ℕ → List ℕ → List �
 picture interlaced right left buffer =
     bufferOf (asked interlaced right left .regs) (memoryOf interlaced right left) (asked interlaced right left .generator) buffer
 
--- red, green or blue at a row and column of the file: woven where interlaced, and as the picture stands where not
+-- a colour's bytes: red, green, blue
+abbrev pub byteOf : ℕ → ℕ → ℕ
+byteOf colour channel = getD (red colour ∷ green colour ∷ blue colour ∷ []) channel 0
+
+-- one of them at a row and column of the file: woven where interlaced, and as the picture stands where not
 unfoldable pub fileAt : Bool → List ℕ → List ℕ → List ℕ → ℕ → ℕ → ℕ → ℕ
 fileAt interlaced right left buffer row column channel =
     cond interlaced
-    (byteAt (weaveOf (sizeOf (asked interlaced right left))) (picture interlaced right left buffer)
-    (byteOf (weaveOf (sizeOf (asked interlaced right left))) row column channel))
+    (Weave.byteAt (weaveOf (sizeOf (asked interlaced right left))) (picture interlaced right left buffer)
+    (Weave.byteOf (weaveOf (sizeOf (asked interlaced right left))) row column channel))
     (getD (picture interlaced right left buffer) (3 * (row * 640 + column) + channel) 0)
 
--- ONE CHART IN ALL ROOMS: neither picture is refused; each of the chart's 640 by 480 pixels has one colour in both files, one row lower where
--- interlaced; and the half rows above and below it are white, as paper is
+-- a line of the chart stands one row lower where interlaced, below a half row; the colour of a pixel of the chart in the file
+abbrev pub rowOf : Bool → ℕ → ℕ
+rowOf interlaced y = cond interlaced (y + 1) y
+
+abbrev pub colourAt : Bool → List ℕ → List ℕ → List ℕ → Point → ℕ
+colourAt interlaced right left buffer p =
+    joined (fileAt interlaced right left buffer (rowOf interlaced (p .y)) (p .x) 0)
+    (fileAt interlaced right left buffer (rowOf interlaced (p .y)) (p .x) 1)
+    (fileAt interlaced right left buffer (rowOf interlaced (p .y)) (p .x) 2)
+
+-- THE EARS: in any room a pixel of the chart is red exactly where the right ear shows, and blue exactly where the left ear does and the right
+-- does not lie over it
+pub record EarsShown (interlaced : Bool) (right left : List ℕ) : Type 0 where
+  pub right-red :
+      (buffer : List ℕ) → length buffer ≡ bytesAsked interlaced → (p : Point) → p .x < 640 → p .y < 480 →
+      shows true right p ≡ true → colourAt interlaced right left buffer p ≡ 0xFF0000
+  pub red-right :
+      (buffer : List ℕ) → length buffer ≡ bytesAsked interlaced → (p : Point) → p .x < 640 → p .y < 480 →
+      colourAt interlaced right left buffer p ≡ 0xFF0000 → shows true right p ≡ true
+  pub left-blue :
+      (buffer : List ℕ) → length buffer ≡ bytesAsked interlaced → (p : Point) → p .x < 640 → p .y < 480 →
+      shows true right p ≡ false → shows false left p ≡ true → colourAt interlaced right left buffer p ≡ 0x0000FF
+  pub blue-left :
+      (buffer : List ℕ) → length buffer ≡ bytesAsked interlaced → (p : Point) → p .x < 640 → p .y < 480 →
+      colourAt interlaced right left buffer p ≡ 0x0000FF → (shows true right p ≡ false) × (shows false left p ≡ true)
+
+-- ONE CHART IN ALL ROOMS: neither picture is refused; each of the chart's 640 by 480 pixels has one colour in both files; and the half rows
+-- above and below it are white, as paper is
 pub record SameChart (right left : List ℕ) : Type 0 where
   pub taken : (interlaced : Bool) → refusal interlaced right left ≡ 0
   pub same :
       (today oldest : List ℕ) → length today ≡ bytesAsked false → length oldest ≡ bytesAsked true →
-      (p : Point) (channel : ℕ) → p .x < 640 → p .y < 480 → channel < 3 →
-      fileAt true right left oldest (p .y + 1) (p .x) channel ≡ fileAt false right left today (p .y) (p .x) channel
+      (p : Point) → p .x < 640 → p .y < 480 → colourAt true right left oldest p ≡ colourAt false right left today p
   pub above :
       (oldest : List ℕ) → length oldest ≡ bytesAsked true → (column channel : ℕ) → 272 ≤ column → column < 640 → channel < 3 →
       fileAt true right left oldest 0 column channel ≡ 255

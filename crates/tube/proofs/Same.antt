@@ -3,7 +3,7 @@
 use Prim.Native.Nat.{ℕ, zero, suc, _+_, _-_, _*_, _/_, _%_, _≤_, _<_}
 use mathlib.Core.Path.{_≡_, refl, sym, _∙_, ap, subst}
 use mathlib.Core.Bool.{Bool, true, false, cond, true≢false}
-use mathlib.Core.List.{List, [], _∷_, _++_}
+use mathlib.Core.List.{List, [], _∷_}
 use native.Mathlib.Nat.{zero-add}
 use native.Mathlib.Omega.{arith}
 use borrow.Author.Tests.{eqb-true, eqb-false, le-leb, lt-leb}
@@ -11,7 +11,6 @@ use lib.Dec.{eqb}
 use lib.ListN.{length, getD, replicate, length-append, length-replicate, List·getD-append}
 use lib.Seq.{getD-append-add}
 use Rattle.base.specs.Count.{run}
-use Rattle.base.specs.Channels.{red, green, blue}
 use Rattle.base.proofs.Run.{run-length, run-entry}
 use Rattle.screen.specs.Totals.{frameTicks, framePixels}
 use Rattle.registers.specs.declared.Registers.{Registers}
@@ -23,7 +22,6 @@ use Rattle.machine.specs.declared.Machine.{Machine}
 use Rattle.frame.specs.Frame.{AtStart, FieldOf, inFields, pixelsSeen}
 use Rattle.frame.specs.Demand.{fieldPlace, fieldDot}
 use Rattle.frame.proofs.Gather.{in-fields-same, in-fields-two}
-use Rattle.picture.specs.Picture.{bufferOf}
 use Rattle.picture.specs.Span.{bytesOf}
 use Rattle.picture.specs.Machines.{ticked, pictured}
 use Rattle.picture.proofs.Machines.{ticked-generator}
@@ -31,7 +29,7 @@ use Rattle.demands.specs.Demand3.{colours, atField, ticksIn, Begins, Demand3}
 use Rattle.demands.proofs.Third.{demand-3-reached}
 use Rattle.demands.proofs.Reached.{reached-sound}
 use Rattle.weave.specs.declared.Weave.{Weave}
-use Rattle.weave.specs.Weave.{byteAt, byteOf}
+use Rattle.weave.specs.Weave as Weaves
 use Rattle.weave.specs.Once.{Place, rowIn}
 use Rattle.calls.specs.Calls.{sizeOf}
 use Rattle.calls.specs.Woven.{weaveOf, numberOf, tubeAt, Woven}
@@ -40,19 +38,15 @@ use Rattle.audiogram.specs.Entry.{paperEntry, entryAt}
 use Rattle.audiogram.specs.Places.{placeOf, holds}
 use Rattle.audiogram.specs.Picture.{size}
 use Rattle.audiogram.proofs.Places.{holds-rows}
-use Rattle.audiogram.proofs.Theorems.{entry-bound, drawn-length, drawn-pixel, drawn-paper}
+use Rattle.audiogram.proofs.Theorems.{entry-bound, right-where-shown, right-only-shown, left-where-shown, left-only-shown, drawn-length, drawn-pixel, drawn-paper}
 use Rattle.marks.specs.declared.points.Point.{Point}
-use Rattle.chart.specs.Started.{started}
-use Rattle.chart.specs.Shown.{memoryOf, frameRun, asked, bytesAsked, refusal, picture, fileAt, SameChart}
-use Rattle.chart.proofs.Reached.{runCalls, run-reached}
-use Rattle.chart.proofs.Colours.{colour, white, same-colour, place-shown}
-use Rattle.chart.proofs.Frame.{started-numbers, field-numbers, started-start, placed, field-placed, placed-inside, begins-there}
+use Rattle.tube.specs.Started.{started}
+use Rattle.tube.specs.Shown.{memoryOf, frameRun, asked, bytesAsked, refusal, picture, byteOf, fileAt, rowOf, colourAt, EarsShown, SameChart}
+use Rattle.tube.proofs.Reached.{runCalls, run-reached}
+use Rattle.tube.proofs.Colours.{colour, red, blue, white, only-red, only-blue, same-colour, place-shown, three-bytes}
+use Rattle.tube.proofs.Frame.{started-numbers, field-numbers, started-start, placed, field-placed, placed-inside, begins-there}
 
--- one of a colour's three bytes
-abbrev channelOf : ℕ → ℕ → ℕ
-channelOf channel c = getD (red c ∷ green c ∷ blue c ∷ []) channel 0
-
-bytes-entry : (dots : List Dot) (k channel : ℕ) → k < length dots → channel < 3 → getD (bytesOf dots) (3 * k + channel) 0 ≡ channelOf channel (getD dots k black .colour)
+bytes-entry : (dots : List Dot) (k channel : ℕ) → k < length dots → channel < 3 → getD (bytesOf dots) (3 * k + channel) 0 ≡ byteOf (getD dots k black .colour) channel
 unfolding bytesOf
 bytes-entry [] k channel h l = absurd (omega arith)
 bytes-entry (dot ∷ rest) zero zero h l = refl
@@ -139,14 +133,14 @@ module _ (n : Bool) (right left : List ℕ) where
           go true o k = rw (in-fields-two (started n .regs) dots (o refl), length-append) (omega (arith, run-length (fieldDot (started n .regs) false memory) 0 (pixelsSeen (started n .regs) false), run-length (fieldDot (started n .regs) true memory) 0 (pixelsSeen (started n .regs) true)))
 
       -- A BYTE OF THE PICTURE, of the entry that lies at its pixel's place
-      pub picture-byte : getD (picture n right left buffer) (3 * numberOf (started n .regs) second i + channel) 0 ≡ channelOf channel (colour n (pixelAt 2 memory (placed n second i)))
+      pub picture-byte : getD (picture n right left buffer) (3 * numberOf (started n .regs) second i + channel) 0 ≡ byteOf (colour n (pixelAt 2 memory (placed n second i))) channel
       unfolding fieldDot
       picture-byte =
           ap (λ (b : List ℕ). getD b (3 * numberOf (started n .regs) second i + channel) 0) whole
           ∙ bytes-entry (inFields (started n .regs) dots) (numberOf (started n .regs) second i) channel few l
-          ∙ ap (λ (dot : Dot). channelOf channel (dot .colour)) dot-there
-          ∙ ap (channelOf channel) (place-shown n _ memory (fieldPlace (started n .regs) second i) _ _)
-          ∙ ap (λ (place : ℕ). channelOf channel (colour n (pixelAt 2 memory place))) (field-placed n second has i)
+          ∙ ap (λ (dot : Dot). byteOf (dot .colour) channel) dot-there
+          ∙ ap (λ (c : ℕ). byteOf c channel) (place-shown n _ memory (fieldPlace (started n .regs) second i) _ _)
+          ∙ ap (λ (place : ℕ). byteOf (colour n (pixelAt 2 memory place)) channel) (field-placed n second has i)
 
 -- where the pixels of an interlaced picture stand in its file
 module _ (right left buffer : List ℕ) (long : length buffer ≡ bytesAsked true) where
@@ -167,10 +161,10 @@ module _ (right left buffer : List ℕ) (long : length buffer ≡ bytesAsked tru
         rw (field-numbers true second (λ _. refl) .lead, started-numbers true .width, at, row, rest)
 
     -- A BYTE OF THE FILE
-    file-byte : fileAt true right left buffer (rowIn second line) column channel ≡ channelOf channel (colour true (pixelAt 2 (memoryOf true right left) (placed true second i)))
+    file-byte : fileAt true right left buffer (rowIn second line) column channel ≡ byteOf (colour true (pixelAt 2 (memoryOf true right left) (placed true second i))) channel
     unfolding fileAt
     file-byte =
-        subst (λ (place : Place). byteAt w (picture true right left buffer) (byteOf w (place .row) (place .column) channel) ≡ getD (picture true right left buffer) (3 * numberOf (started true .regs) second i + channel) 0) tube-is (on-tube .shown (picture true right left buffer) second i channel h l)
+        subst (λ (place : Place). Weaves.byteAt w (picture true right left buffer) (Weaves.byteOf w (place .row) (place .column) channel) ≡ getD (picture true right left buffer) (3 * numberOf (started true .regs) second i + channel) 0) tube-is (on-tube .shown (picture true right left buffer) second i channel h l)
         ∙ picture-byte true right left buffer long second (λ _. refl) i channel h l
 
 -- ---- the chart
@@ -184,31 +178,31 @@ module _ (right left : List ℕ) where
   paper-there place h e = drawn-paper true right left (replicate (size true) 0) (omega (arith, length-replicate {A = ℕ} (size true) 0)) place h e
 
   -- TODAY'S FILE has the chart
-  pub today-shows : (buffer : List ℕ) → length buffer ≡ bytesAsked false → (p : Point) (channel : ℕ) → p .x < 640 → p .y < 480 → channel < 3 →
-      fileAt false right left buffer (p .y) (p .x) channel ≡ channelOf channel (colour false (entryAt right left p))
+  today-shows : (buffer : List ℕ) → length buffer ≡ bytesAsked false → (p : Point) (channel : ℕ) → p .x < 640 → p .y < 480 → channel < 3 →
+      fileAt false right left buffer (p .y) (p .x) channel ≡ byteOf (colour false (entryAt right left p)) channel
   unfolding fileAt placeOf
   today-shows buffer long p channel h l c =
       let i = p .y * 640 + p .x in
       let there : placed false false i ≡ placeOf false p = omega arith in
       picture-byte false right left buffer long false (λ e. e) i channel (rw (field-numbers false false (λ e. e) .pixels) (omega arith)) c
-      ∙ ap (λ (place : ℕ). channelOf channel (colour false (pixelAt 2 (memoryOf false right left) place))) there
-      ∙ ap (λ (entry : ℕ). channelOf channel (colour false entry)) (entry-there false p h l)
+      ∙ ap (λ (place : ℕ). byteOf (colour false (pixelAt 2 (memoryOf false right left) place)) channel) there
+      ∙ ap (λ (entry : ℕ). byteOf (colour false entry) channel) (entry-there false p h l)
 
   -- AND SO HAS THE OLDEST ROOMS', one row lower
-  pub oldest-shows : (buffer : List ℕ) → length buffer ≡ bytesAsked true → (p : Point) (channel : ℕ) → p .x < 640 → p .y < 480 → channel < 3 →
-      fileAt true right left buffer (p .y + 1) (p .x) channel ≡ channelOf channel (colour true (entryAt right left p))
+  oldest-shows : (buffer : List ℕ) → length buffer ≡ bytesAsked true → (p : Point) (channel : ℕ) → p .x < 640 → p .y < 480 → channel < 3 →
+      fileAt true right left buffer (p .y + 1) (p .x) channel ≡ byteOf (colour true (entryAt right left p)) channel
   unfolding placeOf
   oldest-shows buffer long p channel h l c = go (eqb (p .y % 2) 1) refl
     where
       shown : (second : Bool) (i line : ℕ) → i + cond second 272 0 ≡ line * 640 + p .x → i < pixelsSeen (started true .regs) second → rowIn second line ≡ p .y + 1 → placed true second i ≡ placeOf true p →
-          fileAt true right left buffer (p .y + 1) (p .x) channel ≡ channelOf channel (colour true (entryAt right left p))
+          fileAt true right left buffer (p .y + 1) (p .x) channel ≡ byteOf (colour true (entryAt right left p)) channel
       shown second i line at few row there =
           ap (λ (r : ℕ). fileAt true right left buffer r (p .x) channel) (sym row)
           ∙ file-byte right left buffer long second i line (p .x) channel at h few c
-          ∙ ap (λ (place : ℕ). channelOf channel (colour true (pixelAt 2 (memoryOf true right left) place))) there
-          ∙ ap (λ (entry : ℕ). channelOf channel (colour true entry)) (entry-there true p h l)
+          ∙ ap (λ (place : ℕ). byteOf (colour true (pixelAt 2 (memoryOf true right left) place)) channel) there
+          ∙ ap (λ (entry : ℕ). byteOf (colour true entry) channel) (entry-there true p h l)
 
-      go : (b : Bool) → eqb (p .y % 2) 1 ≡ b → fileAt true right left buffer (p .y + 1) (p .x) channel ≡ channelOf channel (colour true (entryAt right left p))
+      go : (b : Bool) → eqb (p .y % 2) 1 ≡ b → fileAt true right left buffer (p .y + 1) (p .x) channel ≡ byteOf (colour true (entryAt right left p)) channel
       go true e =
           let odd = eqb-true (p .y % 2) 1 e in
           shown true (368 + (p .y / 2 * 640 + p .x)) (p .y / 2 + 1) (omega arith) (rw (field-numbers true true (λ _. refl) .pixels) (omega arith)) (omega (arith, odd)) (rw odd)
@@ -221,11 +215,11 @@ module _ (right left : List ℕ) where
       fileAt true right left buffer (rowIn second line) column channel ≡ 255
   half-row buffer long second i line column channel at inside few c none =
       file-byte right left buffer long second i line column channel at inside few c
-      ∙ ap (λ (entry : ℕ). channelOf channel (colour true entry)) (paper-there (placed true second i) (placed-inside true second (λ _. refl) i few) none)
-      ∙ ap (channelOf channel) (white true)
+      ∙ ap (λ (entry : ℕ). byteOf (colour true entry) channel) (paper-there (placed true second i) (placed-inside true second (λ _. refl) i few) none)
+      ∙ ap (λ (c : ℕ). byteOf c channel) (white true)
       ∙ all-white channel c
     where
-      all-white : (k : ℕ) → k < 3 → channelOf k 0xFFFFFF ≡ 255
+      all-white : (k : ℕ) → k < 3 → byteOf 0xFFFFFF k ≡ 255
       all-white zero h = refl
       all-white (suc zero) h = refl
       all-white (suc (suc zero)) h = refl
@@ -239,12 +233,33 @@ module _ (right left : List ℕ) where
       let line : (153600 + column - 0) / 640 ≡ 240 = omega arith in
       holds-rows true 0 (153600 + column) (omega arith) ∙ rw (le-leb 0 (153600 + column) (omega arith), line)
 
+  -- the colour of a pixel of the chart
+  shows-byte : (n : Bool) (buffer : List ℕ) → length buffer ≡ bytesAsked n → (p : Point) (channel : ℕ) → p .x < 640 → p .y < 480 → channel < 3 →
+      fileAt n right left buffer (rowOf n (p .y)) (p .x) channel ≡ byteOf (colour n (entryAt right left p)) channel
+  shows-byte false buffer long p channel h l c = today-shows buffer long p channel h l c
+  shows-byte true buffer long p channel h l c = oldest-shows buffer long p channel h l c
+
+  -- THE COLOUR OF A PIXEL OF THE CHART, in the file of any room, is its entry's
+  pub colour-shown : (n : Bool) (buffer : List ℕ) → length buffer ≡ bytesAsked n → (p : Point) → p .x < 640 → p .y < 480 → colourAt n right left buffer p ≡ colour n (entryAt right left p)
+  colour-shown n buffer long p h l =
+      rw (shows-byte n buffer long p 0 h l (omega arith), shows-byte n buffer long p 1 h l (omega arith), shows-byte n buffer long p 2 h l (omega arith)) (three-bytes n (entryAt right left p) (entry-bound right left p))
+
+  -- THE EARS in any room
+  pub ears-shown : (n : Bool) → EarsShown n right left
+  ears-shown n =
+      record {
+        right-red = λ buffer long p h l e. colour-shown n buffer long p h l ∙ rw (right-where-shown right left p e) (red n);
+        red-right = λ buffer long p h l e. right-only-shown right left p (only-red n (entryAt right left p) (entry-bound right left p) (sym (colour-shown n buffer long p h l) ∙ e));
+        left-blue = λ buffer long p h l e f. colour-shown n buffer long p h l ∙ rw (left-where-shown right left p e f) (blue n);
+        blue-left = λ buffer long p h l e. left-only-shown right left p (only-blue n (entryAt right left p) (entry-bound right left p) (sym (colour-shown n buffer long p h l) ∙ e));
+      }
+
   -- ONE CHART IN ALL ROOMS
   pub same-chart : SameChart right left
   same-chart =
       record {
         taken = λ n. taken n right left;
-        same = λ today oldest long longer p channel h l c. oldest-shows oldest longer p channel h l c ∙ ap (channelOf channel) (same-colour (entryAt right left p) (entry-bound right left p)) ∙ sym (today-shows today long p channel h l c);
+        same = λ today oldest long longer p h l. colour-shown true oldest longer p h l ∙ same-colour (entryAt right left p) (entry-bound right left p) ∙ sym (colour-shown false today long p h l);
         above = λ oldest long column channel h l c. half-row oldest long true (column - 272) 0 column channel (omega arith) l (rw (field-numbers true true (λ _. refl) .pixels) (omega arith)) c (above-half column l);
         below = λ oldest long column channel h c. half-row oldest long false (153600 + column) 240 column channel (omega arith) (omega arith) (rw (field-numbers true false (λ _. refl) .pixels) (omega arith)) c (below-half column h);
       }

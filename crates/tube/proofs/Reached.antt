@@ -9,7 +9,7 @@ use Rattle.machine.specs.Calls.{Call, tick, afterCall, afterAll}
 use Rattle.machine.specs.declared.Machine.{Machine}
 use Rattle.picture.specs.Machines.{ticked}
 use Rattle.demands.specs.Asked.{Asked, of, afterAsked, afterEvery}
-use Rattle.chart.specs.Started.{writesOf, table, started}
+use Rattle.tube.specs.Started.{writesOf, table, started}
 
 every-of : (m : Machine) (calls : List Call) → afterAll m calls ≡ afterEvery m (map of calls)
 every-of m [] = refl

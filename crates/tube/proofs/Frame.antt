@@ -1,7 +1,7 @@
 -- The script's frame: the screen in numbers, by computation, and that the machine is ready to draw it. Assumes nothing. n: whether the room is
 -- interlaced.
-use Prim.Native.Nat.{ℕ, _+_, _*_, _/_, _%_, _≤_, _<_}
-use mathlib.Core.Path.{_≡_, refl, sym, _∙_, ap}
+use Prim.Native.Nat.{ℕ, _+_, _*_, _/_, _≤_, _<_}
+use mathlib.Core.Path.{_≡_, refl, sym, _∙_}
 use mathlib.Core.Bool.{Bool, true, false, cond, true≢false}
 use mathlib.Core.List.{List}
 use native.Mathlib.Omega.{arith}
@@ -23,8 +23,8 @@ use Rattle.frame.specs.Demand
 use Rattle.demands.specs.Demand3.{Begins}
 use Rattle.audiogram.specs.Places.{fields, placeIn}
 use Rattle.audiogram.specs.Picture.{size}
-use Rattle.chart.specs.Started.{started}
-use Rattle.chart.specs.Shown.{frameRun, bytesAsked}
+use Rattle.tube.specs.Started.{started}
+use Rattle.tube.specs.Shown.{frameRun, bytesAsked}
 
 -- the screen that the script sets, in numbers
 pub record Numbers (n : Bool) (r : Registers) : Type 0 where
