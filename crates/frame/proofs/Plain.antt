@@ -1,26 +1,21 @@
 -- A frame that is not interlaced: it is its first field, and demand 3 asks and says of it what one run of pixels can. Assumes nothing.
-use Prim.Native.Nat.{ℕ, _+_, _-_, _*_, _/_, _%_, _≤_, _<_}
+use Prim.Native.Nat.{ℕ, _+_, _-_, _*_, _≤_, _<_}
 use mathlib.Core.Bool.{Bool, true, false, true≢false}
 use mathlib.Core.List.{List}
 use mathlib.Core.Path.{_≡_, refl, sym, ap, _∙_}
-use native.Mathlib.Nat.{add-zero, mul-zero, mul-le-mul-right}
+use native.Mathlib.Nat.{mul-le-mul-right}
 use native.Mathlib.Omega.{arith}
 use lib.ListN.{length}
-use Rattle.base.specs.Count.{run}
-use Rattle.base.proofs.Run.{run-same}
 use Rattle.control.specs.Control.{increment, pixelBits}
 use Rattle.units.specs.Parameters.{inField}
 use Rattle.screen.specs.Limits.{Accepted}
 use Rattle.screen.specs.Totals.{framePixels, frameTransfers}
 use Rattle.screen.proofs.limits.Laws.{accepted-in}
 use Rattle.registers.specs.declared.Registers.{Registers}
-use Rattle.pixel.specs.Dot.{dotAt}
 use Rattle.generator.specs.Rows.{screen}
-use Rattle.generator.specs.Tick.{positionUsed}
-use Rattle.generator.proofs.VisibleBefore.{plain-visible, lead-none}
-use Rattle.frame.specs.Frame.{FieldOf, inFields, pixelsSeen}
-use Rattle.frame.specs.Demand.{firstAddress, transfersSeen, firstPlace, fieldPlace, fieldDot}
-use Rattle.frame.proofs.Gather.{in-fields-one}
+use Rattle.generator.proofs.VisibleBefore.{plain-visible}
+use Rattle.frame.specs.Frame.{FieldOf, pixelsSeen}
+use Rattle.frame.specs.Demand.{firstAddress, transfersSeen, firstPlace, fieldPlace}
 use Rattle.frame.proofs.Places.{place-plain}
 
 module _ (r : Registers) (ok : Accepted (r .control) (screen r)) (n : screen r .interlaced ≡ false) where
@@ -32,7 +27,7 @@ module _ (r : Registers) (ok : Accepted (r .control) (screen r)) (n : screen r .
   pub plain-transfers : transfersSeen r false ≡ frameTransfers (screen r)
   plain-transfers = simp n (omega arith)
 
-  pub plain-pixels : pixelsSeen r false ≡ framePixels (screen r)
+  plain-pixels : pixelsSeen r false ≡ framePixels (screen r)
   plain-pixels = ap (λ (k : ℕ). 4 * k) (plain-visible (r .control) (inField false (screen r)) (accepted-in (screen r) false ok) n)
 
   -- where the last address does not roll over, none does
@@ -48,11 +43,3 @@ module _ (r : Registers) (ok : Accepted (r .control) (screen r)) (n : screen r .
   plain-room m h false i f l =
       let below : fieldPlace r false i + 1 ≤ firstPlace r + framePixels (screen r) = omega (arith, place-plain r ok n i, plain-pixels) in
       omega (arith, mul-le-mul-right (pixelBits (r .control)) below)
-
-  -- A PIXEL BY ITS NUMBER IN THE FRAME: places follow one another, and a line begins with its column 0
-  plain-dot : (m : List ℕ) (i : ℕ) → fieldDot r false m i ≡ dotAt r (positionUsed r) m (firstPlace r + i) (i % (4 * screen r .display .0)) (i / (4 * screen r .display .0))
-  unfolding fieldDot
-  plain-dot m i = rw (place-plain r ok n i, lead-none (r .control) (inField false (screen r)) (accepted-in (screen r) false ok) n, mul-zero, add-zero)
-
-  pub plain-dots : (m : List ℕ) → inFields r (λ second. run (fieldDot r second m) 0 (pixelsSeen r second)) ≡ run (λ i. dotAt r (positionUsed r) m (firstPlace r + i) (i % (4 * screen r .display .0)) (i / (4 * screen r .display .0))) 0 (framePixels (screen r))
-  plain-dots m = in-fields-one r (λ second. run (fieldDot r second m) 0 (pixelsSeen r second)) n ∙ rw plain-pixels (run-same (fieldDot r false m) _ 0 0 (framePixels (screen r)) (λ i l. plain-dot m (0 + i)))
