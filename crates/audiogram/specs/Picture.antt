@@ -8,7 +8,7 @@ use Rattle.marks.specs.declared.points.Point.{Point}
 use Rattle.audiogram.specs.Entry.{paperEntry, entryAt}
 use Rattle.audiogram.specs.Places.{holds, pixelOf}
 
--- the bytes that hold the chart: 480 lines of 640 pixels; two fields reach into 38 rows of 4,096 each
+-- the bytes of the picture: 480 lines of 160 bytes; for two fields, 38 rows of 1,024 bytes for each
 abbrev pub size : Bool → ℕ
 size interlaced = cond interlaced 77824 76800
 

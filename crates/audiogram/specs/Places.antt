@@ -1,4 +1,4 @@
--- Where the chart's pixels lie in picture memory: today's rooms show one field, the oldest rooms two (02, Q-4). Assumes nothing.
+-- Where the chart's pixels lie in picture memory: today's rooms have a frame of one field, the oldest rooms one of two (02, Q-4). Assumes nothing.
 use Prim.Native.Nat.{ℕ, _+_, _-_, _*_, _/_, _%_}
 use mathlib.Core.Bool.{Bool, cond, _&&_}
 use lib.Dec.{ltb, leb}
@@ -15,14 +15,15 @@ height = 480
 abbrev pub fields : Bool → ℕ
 fields interlaced = cond interlaced 2 1
 
--- a row of picture memory has so many pixels, and the fields have the rows in turn: the place of pixel i of a field
+-- a row of picture memory has so many pixels, 1,024 units, and with increment code 01 the fields have the rows in turn: the place of pixel i of
+-- a field
 abbrev pub rowPixels : ℕ
 rowPixels = 4096
 
 abbrev pub placeIn : Bool → ℕ → ℕ → ℕ
 placeIn interlaced field i = (i / rowPixels * fields interlaced + field) * rowPixels + i % rowPixels
 
--- the second field begins with a half line above the chart, which lacks a line's first 272 pixels
+-- the second field begins with a half line above the chart, which lacks the 68 units of a line's first half, 272 pixels
 abbrev pub above : ℕ → ℕ
 above field = field * (width - 272)
 

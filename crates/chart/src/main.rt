@@ -4,6 +4,7 @@ use input::LINE;
 use patient::level;
 use patient::thresholds;
 use patient::thresholds::Chart;
+use scribe::ending;
 use scribe::pokes;
 use scribe::settings;
 
@@ -76,30 +77,17 @@ fn pokes(out: &mut [u8], at: usize, memory: &[u8]) -> usize {
     waiting
 }
 
-// The size of the memory that is lent.
-fn put_memory(out: &mut [u8], at: usize, size: usize) -> usize {
-    let word = room::put(out, at, b"memory ");
-    let number = text::put_decimal(out, word, size as u64);
-    room::put(out, number, b"\n")
-}
-
-// The whole script: the registers and the palette, the memory, the start; a frame's ticks, the picture and its checksums, of each field.
+// The whole script: the registers and the palette, the memory and its pokes, the start, a frame's ticks, the picture and the checksums.
 fn script_for(chart: Chart, interlaced: bool, out: &mut [u8]) {
     let mut memory = picture_room();
     let size = audiogram::size_of(interlaced);
     audiogram::draw(chart, interlaced, &mut memory);
     let set = settings::put_settings(out, 0, interlaced);
-    let lent = put_memory(out, set, size);
+    let lent = ending::put_memory(out, set, interlaced);
     let poked = pokes(out, lent, room::lent(&memory, size));
     let room = spaced(out, poked);
     let started = settings::put_start(out, room, interlaced);
-    let end = room::put_either(
-        out,
-        started,
-        interlaced,
-        b"run 51450\nnine\nrun 51450\npicture 923520\nnine\n",
-        b"run 105000\npicture 921600\nnine\n",
-    );
+    let end = ending::put_end(out, started, interlaced);
     write_out(out, end);
 }
 

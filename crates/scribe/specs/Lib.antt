@@ -1,3 +1,4 @@
 -- The lines of the script that draws a chart.
+pub mod Ending
 pub mod Pokes
 pub mod Settings

@@ -8,7 +8,7 @@ use Rattle.text.specs.Ascii.{ascii}
 use Rattle.text.specs.Hex.{hexText}
 use Rattle.text.specs.Lines.{lineEnd}
 
--- an address and its value, six digits
+-- an address and its value, of 24 bits each
 abbrev pub at : ℕ → ℕ → ℕ
 at address value = address * 0x1000000 + value
 
@@ -37,7 +37,7 @@ screen =
     at 0x02E 8 ∷  -- TransferDelay
     []
 
--- the oldest rooms: a monitor of 525 interlaced lines, 15.7 thousand a second
+-- the oldest rooms: a monitor of 525 interlaced lines, at 15.7 thousand lines a second
 abbrev pub interlacedScreen : List ℕ
 interlacedScreen =
     at 0x021 7 ∷  -- HalfSync
@@ -70,7 +70,7 @@ colours =
 abbrev pub settings : Bool → List ℕ
 settings interlaced = cond interlaced interlacedScreen screen ++ colours
 
--- control A: the generator runs at 2 bits a pixel with the cursor off; interlaced, with increment code 01 beside
+-- control A: the generator runs at 2 bits a pixel, flyback tesselated, the cursor off; interlaced, with 01 in bits 13 and 12
 abbrev pub start : Bool → ℕ
 start interlaced = at 0x060 (cond interlaced 0x901003 0x900001)
 

@@ -51,7 +51,7 @@ const COLOURS: [u64; 6] = [
     0x103_606060, // form: grey
 ];
 
-// Control A: the generator runs at 2 bits a pixel with the cursor off; interlaced, with increment code 01 beside.
+// Control A: the generator runs at 2 bits a pixel, flyback tesselated, the cursor off; interlaced, with 01 in bits 13 and 12.
 const START: u32 = 0x900001;
 
 const INTERLACED_START: u32 = 0x901003;

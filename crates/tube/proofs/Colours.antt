@@ -10,7 +10,7 @@ use Rattle.units.specs.Parameters
 use Rattle.screen.specs.Limits
 use Rattle.registers.specs.Map
 use Rattle.registers.specs.File
-use Rattle.base.specs.Channels.{joined}
+use Rattle.base.specs.Channels
 use Rattle.memory.specs.Memory.{pixelAt, pixelShown}
 use Rattle.colour.specs.Colour.{maskedColour}
 use Rattle.pixel.specs.Dot.{dotAt}
@@ -18,7 +18,7 @@ use Rattle.machine.specs.Access
 use Rattle.machine.specs.Rules
 use Rattle.audiogram.specs.Entry.{paperEntry, rightEntry, leftEntry, formEntry}
 use Rattle.tube.specs.Started.{refusals, table, started}
-use Rattle.tube.specs.Shown.{byteOf}
+use Rattle.tube.specs.Shown.{entryColours}
 
 -- the machine takes every write, from its beginning on, and starts
 pub settings-accepted : (n : Bool) → refusals Rules.beginning (table n) ≡ replicate 21 0
@@ -49,20 +49,20 @@ module _ (n : Bool) where
   pub grey : colour n formEntry ≡ 0x606060
   grey = ap (λ (l : List ℕ). getD l 3 0) (started-colours n)
 
-  -- no two entries look alike
-  pub only-red : (entry : ℕ) → entry ≤ 3 → colour n entry ≡ 0xFF0000 → entry ≡ rightEntry
-  only-red zero h e = absurd (omega (arith, white))
-  only-red (suc zero) h e = refl
-  only-red (suc (suc zero)) h e = absurd (omega (arith, blue))
-  only-red (suc (suc (suc zero))) h e = absurd (omega (arith, grey))
-  only-red (suc (suc (suc (suc entry)))) h e = absurd (omega arith)
+-- no two entries look alike
+pub only-red : (entry : ℕ) → entry ≤ 3 → getD entryColours entry 0 ≡ 0xFF0000 → entry ≡ rightEntry
+only-red zero h e = absurd (omega (arith, e))
+only-red (suc zero) h e = refl
+only-red (suc (suc zero)) h e = absurd (omega (arith, e))
+only-red (suc (suc (suc zero))) h e = absurd (omega (arith, e))
+only-red (suc (suc (suc (suc entry)))) h e = absurd (omega arith)
 
-  pub only-blue : (entry : ℕ) → entry ≤ 3 → colour n entry ≡ 0x0000FF → entry ≡ leftEntry
-  only-blue zero h e = absurd (omega (arith, white))
-  only-blue (suc zero) h e = absurd (omega (arith, red))
-  only-blue (suc (suc zero)) h e = refl
-  only-blue (suc (suc (suc zero))) h e = absurd (omega (arith, grey))
-  only-blue (suc (suc (suc (suc entry)))) h e = absurd (omega arith)
+pub only-blue : (entry : ℕ) → entry ≤ 3 → getD entryColours entry 0 ≡ 0x0000FF → entry ≡ leftEntry
+only-blue zero h e = absurd (omega (arith, e))
+only-blue (suc zero) h e = absurd (omega (arith, e))
+only-blue (suc (suc zero)) h e = refl
+only-blue (suc (suc (suc zero))) h e = absurd (omega (arith, e))
+only-blue (suc (suc (suc (suc entry)))) h e = absurd (omega arith)
 
 -- AN ENTRY HAS ONE COLOUR in all rooms
 pub same-colour : (entry : ℕ) → entry ≤ 3 → colour true entry ≡ colour false entry
@@ -84,8 +84,11 @@ unfolding dotAt pixelShown
 place-shown false position memory place column line = rw (started-control false)
 place-shown true position memory place column line = rw (started-control true)
 
--- its three bytes are the colour
-pub three-bytes : (n : Bool) (entry : ℕ) → entry ≤ 3 → joined (byteOf (colour n entry) 0) (byteOf (colour n entry) 1) (byteOf (colour n entry) 2) ≡ colour n entry
+-- a colour's bytes, red, green, blue; joined they are the colour
+abbrev pub channelOf : ℕ → ℕ → ℕ
+channelOf channel c = getD (Channels.red c ∷ Channels.green c ∷ Channels.blue c ∷ []) channel 0
+
+pub three-bytes : (n : Bool) (entry : ℕ) → entry ≤ 3 → Channels.joined (channelOf 0 (colour n entry)) (channelOf 1 (colour n entry)) (channelOf 2 (colour n entry)) ≡ getD entryColours entry 0
 three-bytes n zero h = rw (white n)
 three-bytes n (suc zero) h = rw (red n)
 three-bytes n (suc (suc zero)) h = rw (blue n)

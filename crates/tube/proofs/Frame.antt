@@ -15,21 +15,24 @@ use Rattle.registers.specs.Map
 use Rattle.registers.specs.File
 use Rattle.registers.specs.declared.Registers.{Registers}
 use Rattle.generator.specs.Rows
+use Rattle.generator.specs.declared.Generator.{Generator}
 use Rattle.machine.specs.Access
 use Rattle.machine.specs.Rules
 use Rattle.machine.specs.declared.Machine.{Machine}
 use Rattle.frame.specs.Frame
 use Rattle.frame.specs.Demand
 use Rattle.demands.specs.Demand3.{Begins}
+use Rattle.calls.specs.Calls.{sizeOf}
 use Rattle.audiogram.specs.Places.{fields, placeIn}
 use Rattle.audiogram.specs.Picture.{size}
+use Rattle.scribe.specs.Ending.{pictureBytes}
 use Rattle.tube.specs.Started.{started}
-use Rattle.tube.specs.Shown.{frameRun, bytesAsked}
+use Rattle.tube.specs.Shown.{frameRun}
 
 -- the screen that the script sets, in numbers
 pub record Numbers (n : Bool) (r : Registers) : Type 0 where
   pub ticks : Totals.frameTicks (Rows.screen r) ≡ frameRun n
-  pub bytes : 3 * Totals.framePixels (Rows.screen r) ≡ bytesAsked n
+  pub bytes : 3 * Totals.framePixels (Rows.screen r) ≡ pictureBytes n
   pub format : Rows.screen r .interlaced ≡ n
   pub word : interlaced (r .control) ≡ n
   pub width : 4 * Rows.screen r .display .0 ≡ 640
@@ -62,6 +65,12 @@ field-numbers false false of = record { address = refl; row = refl; pixels = ref
 field-numbers false true of = absurd (true≢false (sym (of refl)))
 field-numbers true false of = record { address = refl; row = refl; pixels = refl; transfers = refl; lead = refl }
 field-numbers true true of = record { address = refl; row = refl; pixels = refl; transfers = refl; lead = refl }
+
+-- the size of its picture
+pub size-there : (n : Bool) (g : Generator) → sizeOf (record { regs = started n .regs; generator = g }) ≡ record { width = 640; height = cond n 482 480; half = cond n 272 0 }
+unfolding started Parameters.screenOf Limits.laterLimit Limits.limitOf Map.placeOf File.zeros File.valueIn File.storeIn Access.startLimit Access.writeRefusal Rules.stored Rules.written Lines.lineFrom Lines.lineOf Lines.secondHalf Lines.inLine Lines.lead Lines.columnOf Lines.linesAbove Lines.fieldVisible
+size-there false g = refl
+size-there true g = refl
 
 pub started-start : (n : Bool) → Frame.AtStart (started n .generator)
 unfolding started Parameters.screenOf Limits.laterLimit Limits.limitOf Map.placeOf File.zeros File.valueIn File.storeIn Access.startLimit Access.writeRefusal Rules.stored Rules.written

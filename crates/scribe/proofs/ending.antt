@@ -1,0 +1,2 @@
+-- A law of the lines around the pokes.
+mod Either
