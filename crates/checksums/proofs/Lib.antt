@@ -1,0 +1,2 @@
+-- What the nine checksum bytes tell, proved.
+mod Totals
