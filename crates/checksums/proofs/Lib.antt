@@ -1,2 +1,3 @@
 -- What the nine checksum bytes tell, proved.
 mod Totals
+mod Followed

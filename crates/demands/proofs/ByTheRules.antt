@@ -26,7 +26,7 @@ module _ (m : Machine) (memory : List ℕ) (free : advanced m memory .refusal �
   number = sym (tick-number (m .regs) memory (m .generator)) ∙ free
 
   -- what is answered runs
-  runs-now : running (m .regs .control) ≡ true
+  pub runs-now : running (m .regs .control) ≡ true
   unfolding tickRefusal
   runs-now = go (running (m .regs .control)) refl number
     where
