@@ -126,6 +126,7 @@ module _ (d half at : ℕ) where
         where
           less : (a b : ℕ) → a ≤ b → (a ≡ b → ⊥) → a < b
           less a b p n = omega (arith, n)
+
       go : (half < d) ⊎ (d ≤ half) → not (leb d half) ≡ waits d (half + 1) 0
       go (inl l) = rw (lt-leb d half l) (last l (eqb (half + 1) d) refl)
       go (inr l) = rw (le-leb d half l, le-ltb (half + 1) d (omega arith), ne-eqb (half + 1) d (λ f. omega (arith, f)))
@@ -296,6 +297,7 @@ write-followed w m address value f = go (eqb (writeRefusal (m .regs) (placeOf ad
     idle : (b : Bool) → (not b && b) ≡ false
     idle true = refl
     idle false = refl
+
     go : (t : Bool) → eqb (writeRefusal (m .regs) (placeOf address) value) 0 ≡ t →
         Followed (cond (started m (cond t (stored m (placeOf address) value) m)) unwatched w) (cond t (stored m (placeOf address) value) m)
     go true e = stored-followed w m f (placeOf address) value (passed (m .regs) (placeOf address) value (eqb-true _ 0 e))

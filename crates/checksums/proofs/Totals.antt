@@ -17,7 +17,7 @@ use Rattle.base.proofs.Bools.{below}
 use Rattle.base.proofs.Lists.{none-there}
 use Rattle.pixel.specs.Sums.{none, added, summed}
 use Rattle.pixel.specs.declared.Sums.{Sums}
-use Rattle.checksums.specs.Apart.{OneApart, ChangedAbout, byteIn, risen, Rises, wrong, stuckAt, Stuck}
+use Rattle.checksums.specs.Apart.{OneApart, ChangedAbout, byteIn, risen, Rises, AllRise, wrong, stuckAt, Stuck}
 
 -- a channel's sum, and the total of its bytes
 abbrev pub sumIn : ℕ → Sums → ℕ
@@ -158,6 +158,7 @@ module _ (channel : ℕ) where
         where
           below-or : (a b : ℕ) → a ≤ b → (a ≡ b → ⊥) → a < b
           below-or a b p n = omega (arith, n)
+
           more : a < b → 1 ≤ b - a
           more l = omega arith
 
@@ -201,6 +202,18 @@ module _ (channel : ℕ) where
       up i (inl l) = u i l .0
       up i (inr l) = omega (arith, ap (byteIn channel) (sym (none-there xs i l) ∙ none-there ys i (omega arith)))
 
+-- some channel rises where all three may
+pub all-apart : (xs ys : List ℕ) → AllRise xs ys → ((channel : ℕ) → total channel xs % 2 ^ 24 ≡ total channel ys % 2 ^ 24) → ⊥
+all-apart xs ys r e = go (below 0 (risen 0 xs ys)) (below 0 (risen 1 xs ys))
+  where
+    one : (channel : ℕ) → channel < 3 → 0 < risen channel xs ys → ⊥
+    one channel l p = rises-apart channel xs ys (record { as-many = r .as-many; up = λ i. r .up channel i l; somewhere = p; less = r .less channel l }) (e channel)
+
+    go : (0 < risen 0 xs ys) ⊎ (risen 0 xs ys ≤ 0) → (0 < risen 1 xs ys) ⊎ (risen 1 xs ys ≤ 0) → ⊥
+    go (inl p) q = one 0 (omega arith) p
+    go (inr p) (inl q) = one 1 (omega arith) q
+    go (inr p) (inr q) = one 2 (omega arith) (omega (arith, r .somewhere))
+
 line-most : (line : ℕ) → line < 8 → 2 ^ line ≤ 128
 line-most line l = pow-mono {i = line} {j = 7} (omega arith)
 
@@ -226,3 +239,28 @@ stuck-apart channel line false xs ys l s e =
     (steps-rise channel ys xs (sym (s .as-many)) (λ i p. rw (s .stuck i (omega (arith, s .as-many))) (stuck-low line _ l))
     (rw (wrong-either channel ys xs) (s .some)) (rw (wrong-either channel ys xs) (s .fewer)))
     (sym e)
+
+-- ---- lists that differ so
+
+pub set-apart : (xs : List ℕ) (i y : ℕ) → i < length xs → (getD xs i 0 ≡ y → ⊥) → OneApart xs (set xs i y)
+set-apart xs i y l n =
+    record {
+      as-many = sym (length-set xs i y);
+      place = i;
+      apart = λ e. n (e ∙ getD-set-same xs i y 0 l);
+      alike = λ j f. sym (getD-set-other xs i j y 0 f);
+    }
+
+pub set-about : (xs : List ℕ) (i j : ℕ) → i < length xs → j < length xs → (j ≡ i → ⊥) → ChangedAbout xs (set (set xs i (getD xs j 0)) j (getD xs i 0))
+set-about xs i j l k n =
+    let once = set xs i (getD xs j 0) in
+    record {
+      as-many = sym (length-set once j _ ∙ length-set xs i _);
+      one = i;
+      other = j;
+      one-in = l;
+      other-in = k;
+      one-gets = getD-set-other once j i _ 0 (λ e. n (sym e)) ∙ getD-set-same xs i _ 0 l;
+      other-gets = getD-set-same once j _ 0 (omega (arith, length-set xs i (getD xs j 0)));
+      alike = λ m f g. sym (getD-set-other once j m _ 0 g ∙ getD-set-other xs i m _ 0 f);
+    }

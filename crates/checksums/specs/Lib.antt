@@ -2,3 +2,4 @@
 pub mod Field
 pub mod Apart
 pub mod Told
+pub mod Bench

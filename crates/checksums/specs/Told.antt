@@ -13,7 +13,7 @@ use Rattle.demands.specs.Asked.{Asked}
 use Rattle.demands.specs.Demand2.{checksumsRead}
 use Rattle.calls.specs.Nine.{nineOf}
 use Rattle.checksums.specs.Field.{putOut}
-use Rattle.checksums.specs.Apart.{OneApart, ChangedAbout, Rises, Stuck}
+use Rattle.checksums.specs.Apart.{OneApart, ChangedAbout, Rises, AllRise, Stuck}
 
 -- the nine bytes that `nine` gives
 abbrev pub nineGiven : Machine → List ℕ
@@ -34,7 +34,10 @@ pub record Told (calls others : List Asked) (m n : Machine) : Type 0 where
   pub one-apart : OneApart (putOut calls) (putOut others) → nineGiven m ≡ nineGiven n → ⊥
   -- two pixels have changed about: the nine bytes are equal
   pub changed-about : ChangedAbout (putOut calls) (putOut others) → nineGiven m ≡ nineGiven n
-  -- the bytes of one channel stay or rise, or stay or fall
+  -- every byte stays or rises, or every one stays or falls
+  pub all-rise : AllRise (putOut calls) (putOut others) → nineGiven m ≡ nineGiven n → ⊥
+  pub all-fall : AllRise (putOut others) (putOut calls) → nineGiven m ≡ nineGiven n → ⊥
+  -- the bytes of one channel do, whatever those of the others do
   pub rises : (channel : ℕ) → channel < 3 → Rises channel (putOut calls) (putOut others) → nineGiven m ≡ nineGiven n → ⊥
   pub falls : (channel : ℕ) → channel < 3 → Rises channel (putOut others) (putOut calls) → nineGiven m ≡ nineGiven n → ⊥
   -- so a colour line that is stuck is seen, while fewer than 131,072 pixels are wrong by it
