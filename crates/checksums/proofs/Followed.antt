@@ -49,7 +49,7 @@ use Rattle.demands.specs.ByTheRules.{halfNow, atNow, v, out, next, clearedNow, 
 use Rattle.demands.specs.Demand2.{runs}
 use Rattle.demands.proofs.ByTheRules.{runs-now, by-the-rules}
 use Rattle.demands.proofs.Reached.{asked-sound}
-use Rattle.checksums.specs.Field.{Watched, unwatched, falls, lit, withTick, withTicks, started, withCall, withCalls}
+use Rattle.checksums.specs.Field.{Watched, unwatched, falls, lit, begun, seen, withTick, withTicks, started, withCall, withCalls}
 
 -- ---- colours of 24 bits
 
@@ -156,30 +156,27 @@ module _ (w : Watched) (m : Machine) (memory : List ℕ) (z : SoundMachine m) (f
     first-is : falls w (out m memory) ≡ (eqb (halfNow m) (toVDisplay m) && eqb (atNow m) 0)
     first-is = rw inactive-is (falls-first (toVDisplay m) (halfNow m) (atNow m) vdisplay-some (w .high) (f .level on))
 
-    abbrev begun : List ℕ
-    begun = cond (falls w (out m memory)) [] (w .colours)
-
-    begun-sums : clearedNow m ≡ summed none begun
+    begun-sums : clearedNow m ≡ summed none (begun w (out m memory))
     unfolding opens summed
-    begun-sums = rw first-is (go (eqb (halfNow m) (toVDisplay m) && eqb (atNow m) 0))
+    begun-sums = go (falls w (out m memory)) refl
       where
-        go : (t : Bool) → cond t none (m .generator .sums) ≡ summed none (cond t [] (w .colours))
-        go true = refl
-        go false = f .sums
+        go : (t : Bool) → falls w (out m memory) ≡ t → clearedNow m ≡ summed none (begun w (out m memory))
+        go true e = simp (sym first-is ∙ e, e)
+        go false e = simp (sym first-is ∙ e, e) (f .sums)
 
-    begun-narrow : Narrow begun
+    begun-narrow : Narrow (begun w (out m memory))
     begun-narrow = go (falls w (out m memory))
       where
         go : (t : Bool) → Narrow (cond t [] (w .colours))
         go true = tt
         go false = f .narrow
 
-    tick-sums : next m memory .sums ≡ summed none (begun ++ lit (out m memory))
+    tick-sums : next m memory .sums ≡ summed none (begun w (out m memory) ++ lit (out m memory))
     tick-sums = b .checksums ∙ go (out m memory .blank)
       where
-        go : (t : Bool) → cond t (clearedNow m) (summed (clearedNow m) (coloursOf (out m memory .dots))) ≡ summed none (begun ++ cond t [] (coloursOf (out m memory .dots)))
-        go true = begun-sums ∙ ap (summed none) (sym (append-nil begun))
-        go false = ap (λ (x : Sums). summed x (coloursOf (out m memory .dots))) begun-sums ∙ sym (summed-join none begun (coloursOf (out m memory .dots)))
+        go : (t : Bool) → cond t (clearedNow m) (summed (clearedNow m) (coloursOf (out m memory .dots))) ≡ summed none (begun w (out m memory) ++ cond t [] (coloursOf (out m memory .dots)))
+        go true = begun-sums ∙ ap (summed none) (sym (append-nil (begun w (out m memory))))
+        go false = ap (λ (x : Sums). summed x (coloursOf (out m memory .dots))) begun-sums ∙ sym (summed-join none (begun w (out m memory)) (coloursOf (out m memory .dots)))
 
     four-narrow : (k : ℕ) → dotOf (m .regs) (m .generator .second) memory (heldAddress (m .regs) (m .generator)) (v m) k .colour < 2 ^ 24
     unfolding dotOf
@@ -204,14 +201,14 @@ module _ (w : Watched) (m : Machine) (memory : List ℕ) (z : SoundMachine m) (f
         go false e true c = waits-on (toVDisplay m) (halfNow m) (atNow m)
         go false e false c = absurd (past (b .half ∙ simp (e, c)) (b .at ∙ simp e))
 
-  tick-answered : advanced m memory .refusal ≡ 0 → Followed (record { high = out m memory .inactive; colours = cond (falls w (out m memory)) [] (w .colours) ++ lit (out m memory) }) (advanced m memory .machine)
+  tick-answered : advanced m memory .refusal ≡ 0 → Followed (seen w (out m memory)) (advanced m memory .machine)
   unfolding advanced
   tick-answered free =
       let b = by-the-rules m memory free z in
       let on = runs-now m memory free in
       record {
         sums = tick-sums b on;
-        narrow = narrow-join (begun b on) (lit (out m memory)) (begun-narrow b on) (lit-narrow b on);
+        narrow = narrow-join (begun w (out m memory)) (lit (out m memory)) (begun-narrow b on) (lit-narrow b on);
         level = λ _ past. level-on b on past;
       }
 
@@ -220,7 +217,7 @@ module _ (w : Watched) (m : Machine) (memory : List ℕ) (z : SoundMachine m) (f
   tick-followed = go (eqb (advanced m memory .refusal) 0) refl
     where
       go : (t : Bool) → eqb (advanced m memory .refusal) 0 ≡ t →
-          Followed (cond t (record { high = out m memory .inactive; colours = cond (falls w (out m memory)) [] (w .colours) ++ lit (out m memory) }) w) (advanced m memory .machine)
+          Followed (cond t (seen w (out m memory)) w) (advanced m memory .machine)
       go true e = tick-answered (eqb-true _ 0 e)
       go false e = rw (tick-refused-same m memory (eqb-false _ 0 e) .0) f
 

@@ -33,10 +33,16 @@ falls w s = w .high && not (s .inactive)
 abbrev pub lit : Signals → List ℕ
 lit s = cond (s .blank) [] (coloursOf (s .dots))
 
--- a tick seen: the first VDisplay tick begins a field, and is part of it; a refused one puts out nothing
+-- what the field had put out before a tick: nothing, where the tick is its first
+abbrev pub begun : Watched → Signals → List ℕ
+begun w s = cond (falls w s) [] (w .colours)
+
+-- a tick seen; a refused one puts out nothing
+abbrev pub seen : Watched → Signals → Watched
+seen w s = record { high = s .inactive; colours = begun w s ++ lit s }
+
 unfoldable pub withTick : Watched → ℕ → Signals → Watched
-withTick w refusal s =
-    cond (eqb refusal 0) (record { high = s .inactive; colours = cond (falls w s) [] (w .colours) ++ lit s }) w
+withTick w refusal s = cond (eqb refusal 0) (seen w s) w
 
 -- n of them, one after another, with one picture memory
 unfoldable pub withTicks : Watched → Machine → List ℕ → ℕ → Watched
