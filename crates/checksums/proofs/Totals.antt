@@ -9,7 +9,7 @@ use native.Mathlib.Nat.{zero-add, div-add-mod', div-eq-of-lt}
 use native.Mathlib.Omega.{arith}
 use borrow.Author.Tests.{eqb-true, eqb-false, eq-eqb, ne-eqb}
 use lib.Dec.{eqb}
-use lib.ListN.{length, getD, set, length-set}
+use lib.ListN.{length, getD, set, replicate, length-set, length-replicate, getD-replicate}
 use lib.Pow.{pow-mono}
 use lib.Seq.{getD-set-same, getD-set-other}
 use Rattle.base.specs.Sum.{rolled}
@@ -263,4 +263,16 @@ set-about xs i j l k n =
       one-gets = getD-set-other once j i _ 0 (λ e. n (sym e)) ∙ getD-set-same xs i _ 0 l;
       other-gets = getD-set-same once j _ 0 (omega (arith, length-set xs i (getD xs j 0)));
       alike = λ m f g. sym (getD-set-other once j m _ 0 g ∙ getD-set-other xs i m _ 0 f);
+    }
+
+pub stuck-all : (channel line : ℕ) (high : Bool) (n x y : ℕ) → byteIn channel y ≡ stuckAt high line (byteIn channel x) → 0 < wrong channel (replicate n x) (replicate n y) →
+    wrong channel (replicate n x) (replicate n y) < 131072 → Stuck channel line high (replicate n x) (replicate n y)
+stuck-all channel line high n x y e p q =
+    record {
+      as-many = length-replicate n x ∙ sym (length-replicate n y);
+      stuck = λ i l.
+          let k : i < n = omega (arith, l, length-replicate n x) in
+          ap (byteIn channel) (getD-replicate n i y 0 k) ∙ e ∙ ap (λ (c : ℕ). stuckAt high line (byteIn channel c)) (sym (getD-replicate n i x 0 k));
+      some = p;
+      fewer = q;
     }

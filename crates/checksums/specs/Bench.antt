@@ -13,7 +13,7 @@ use Rattle.demands.specs.Asked.{Asked, of, picture, afterEvery}
 use Rattle.calls.specs.Nine.{nineOf}
 use Rattle.calls.specs.declared.Checksums.{Checksums}
 use Rattle.checksums.specs.Field.{putOut, inFlyback}
-use Rattle.checksums.specs.Apart.{OneApart, ChangedAbout}
+use Rattle.checksums.specs.Apart.{OneApart, ChangedAbout, Stuck}
 use Rattle.checksums.specs.Told.{Told}
 
 -- the screen at 8 bits, started; palette entry 5 is document 01's, 6 has one more of red, 7 one less, and the mask lets all through
@@ -42,6 +42,10 @@ elsewhere = set fives 11 6
 
 abbrev pub cancelled : List ℕ
 cancelled = set oneWrong 11 7
+
+-- all of them entry 6: the lowest line of red is stuck high
+abbrev pub sixes : List ℕ
+sixes = replicate 16 6
 
 -- the three words, unrefused
 abbrev pub words : ℕ → ℕ → ℕ → Checksums
@@ -72,6 +76,9 @@ pub record Bench : Type 0 where
   pub about-told : Told (field oneWrong) (field elsewhere) (after (field oneWrong)) (after (field elsewhere))
   -- two pixels are wrong and cancel: one has as much too much of red as the other has too little
   pub cancelled-reads : Reads (field cancelled) (set (set (replicate 16 0x102030) 2 0x112030) 11 0x0F2030) (words 0x000000 0x010203 0x000000)
+  -- a stuck line is seen
+  pub sixes-reads : Reads (field sixes) (replicate 16 0x112030) (words 0x100000 0x010203 0x000000)
+  pub stuck : Stuck 0 0 true (putOut (field fives)) (putOut (field sixes))
   -- a picture is its ticks; and a write between them changes what goes out after it
   pub drawn-reads : Reads drawn (replicate 16 0x102030) (words 0x000000 0x010203 0x000000)
   pub rewritten-reads : Reads rewritten (replicate 8 0x102030 ++ replicate 8 0x112030) (words 0x080000 0x010203 0x000000)
