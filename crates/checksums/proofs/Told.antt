@@ -33,9 +33,9 @@ use Rattle.demands.proofs.Reached.{reached-sound}
 use Rattle.demands.proofs.Second.{words-read, demand-2}
 use Rattle.calls.specs.Nine.{nineOf}
 use Rattle.checksums.specs.Field.{unwatched, withCalls, putOut, inFlyback}
-use Rattle.checksums.specs.Apart.{OneApart, ChangedAbout, byteIn, Rises, Stuck}
-use Rattle.checksums.specs.Told.{nineGiven, Readable, Told}
-use Rattle.checksums.proofs.Totals.{sumIn, total, sum-is, sums-from, changed-total, one-byte, rises-apart, all-apart, stuck-apart}
+use Rattle.checksums.specs.Apart.{total}
+use Rattle.checksums.specs.Told.{sumIn, nineGiven, Readable, Told}
+use Rattle.checksums.proofs.Totals.{sum-is, sums-from, changed-total, one-byte, rises-apart, all-apart, stuck-apart}
 use Rattle.checksums.proofs.Followed.{Followed, narrow-at, calls-followed, beginning-followed}
 
 -- ---- the reads are answered
@@ -128,7 +128,7 @@ module _ (calls others : List Asked) (m n : Machine) (reached : m ≡ afterEvery
       record {
         readable = readable m z back;
         readable-too = readable n y too;
-        summed-up = followed .sums;
+        totals = λ channel l. ap (sumIn channel) (followed .sums) ∙ sum-is channel xs;
         one-apart = λ o e.
             o .apart
             (word-injective (getD xs (o .place) 0) (getD ys (o .place) 0) (narrow-at xs (o .place) (followed .narrow)) (narrow-at ys (o .place) (followed-too .narrow))

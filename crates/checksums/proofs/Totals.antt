@@ -17,15 +17,8 @@ use Rattle.base.proofs.Bools.{below}
 use Rattle.base.proofs.Lists.{none-there}
 use Rattle.pixel.specs.Sums.{none, added, summed}
 use Rattle.pixel.specs.declared.Sums.{Sums}
-use Rattle.checksums.specs.Apart.{OneApart, ChangedAbout, byteIn, risen, Rises, AllRise, wrong, stuckAt, Stuck}
-
--- a channel's sum, and the total of its bytes
-abbrev pub sumIn : ℕ → Sums → ℕ
-sumIn channel s = getD (s .red ∷ s .green ∷ s .blue ∷ []) channel 0
-
-unfoldable pub total : ℕ → List ℕ → ℕ
-total channel [] = 0
-total channel (x ∷ xs) = byteIn channel x + total channel xs
+use Rattle.checksums.specs.Told.{sumIn}
+use Rattle.checksums.specs.Apart.{OneApart, ChangedAbout, byteIn, total, risen, Rises, AllRise, wrong, stuckAt, Stuck}
 
 byte-small : (channel colour : ℕ) → byteIn channel colour < 256
 byte-small zero colour = omega arith

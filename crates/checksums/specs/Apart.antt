@@ -29,6 +29,11 @@ pub record ChangedAbout (xs ys : List ℕ) : Type 0 where
 abbrev pub byteIn : ℕ → ℕ → ℕ
 byteIn channel colour = getD (channels colour) channel 0
 
+-- the total of a channel's bytes
+unfoldable pub total : ℕ → List ℕ → ℕ
+total channel [] = 0
+total channel (x ∷ xs) = byteIn channel x + total channel xs
+
 -- by how much a channel's bytes rise from pixel to pixel, in all
 abbrev pub risen : ℕ → List ℕ → List ℕ → ℕ
 risen channel [] ys = 0

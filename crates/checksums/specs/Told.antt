@@ -1,19 +1,24 @@
 -- ONE BAD PIXEL CAN'T HIDE (02, Q-1). Two machines that the calls give from the beginning, both in flyback, whatever the two fields were ticked
 -- with and whatever was written between their ticks: what their nine bytes tell of the pixels put out. m, n: the machines after the calls.
 -- Assumes nothing.
-use Prim.Native.Nat.{ℕ, _+_, _<_}
+use Prim.Native.Nat.{ℕ, _+_, _%_, _^_, _<_}
 use mathlib.Core.Bool.{Bool}
-use mathlib.Core.List.{List}
+use mathlib.Core.List.{List, [], _∷_}
 use mathlib.Core.Path.{_≡_}
+use lib.ListN.{getD}
 use Rattle.vault.specs.Nine.{nineBytes}
-use Rattle.pixel.specs.Sums.{none, summed}
+use Rattle.pixel.specs.declared.Sums.{Sums}
 use Rattle.machine.specs.Rules.{answered}
 use Rattle.machine.specs.declared.Machine.{Machine}
 use Rattle.demands.specs.Asked.{Asked}
 use Rattle.demands.specs.Demand2.{checksumsRead}
 use Rattle.calls.specs.Nine.{nineOf}
 use Rattle.checksums.specs.Field.{putOut}
-use Rattle.checksums.specs.Apart.{OneApart, ChangedAbout, Rises, AllRise, Stuck}
+use Rattle.checksums.specs.Apart.{OneApart, ChangedAbout, total, Rises, AllRise, Stuck}
+
+-- a channel's checksum
+abbrev pub sumIn : ℕ → Sums → ℕ
+sumIn channel s = getD (s .red ∷ s .green ∷ s .blue ∷ []) channel 0
 
 -- the nine bytes that `nine` gives
 abbrev pub nineGiven : Machine → List ℕ
@@ -28,8 +33,8 @@ pub record Readable (m : Machine) : Type 0 where
 pub record Told (calls others : List Asked) (m n : Machine) : Type 0 where
   pub readable : Readable m
   pub readable-too : Readable n
-  -- the checksums are those of what the field put out, and of nothing else
-  pub summed-up : m .generator .sums ≡ summed none (putOut calls)
+  -- each checksum is the total of its channel's bytes that the field put out, modulo 2^24
+  pub totals : (channel : ℕ) → channel < 3 → sumIn channel (m .generator .sums) ≡ total channel (putOut calls) % 2 ^ 24
   -- one pixel is another: the nine bytes differ
   pub one-apart : OneApart (putOut calls) (putOut others) → nineGiven m ≡ nineGiven n → ⊥
   -- two pixels have changed about: the nine bytes are equal
