@@ -41,7 +41,7 @@ abbrev pub elsewhere : List ℕ
 elsewhere = set fives 11 6
 
 abbrev pub cancelled : List ℕ
-cancelled = set oneWrong 11 7
+cancelled = set elsewhere 2 7
 
 -- all of them entry 6: the lowest line of red is stuck high
 abbrev pub sixes : List ℕ
@@ -75,7 +75,7 @@ pub record Bench : Type 0 where
   pub changed-about : ChangedAbout (putOut (field oneWrong)) (putOut (field elsewhere))
   pub about-told : Told (field oneWrong) (field elsewhere) (after (field oneWrong)) (after (field elsewhere))
   -- two pixels are wrong and cancel: one has as much too much of red as the other has too little
-  pub cancelled-reads : Reads (field cancelled) (set (set (replicate 16 0x102030) 2 0x112030) 11 0x0F2030) (words 0x000000 0x010203 0x000000)
+  pub cancelled-reads : Reads (field cancelled) (set (set (replicate 16 0x102030) 11 0x112030) 2 0x0F2030) (words 0x000000 0x010203 0x000000)
   -- a stuck line is seen
   pub sixes-reads : Reads (field sixes) (replicate 16 0x112030) (words 0x100000 0x010203 0x000000)
   pub stuck : Stuck 0 0 true (putOut (field fives)) (putOut (field sixes))
