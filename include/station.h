@@ -21,7 +21,8 @@ extern "C" {
    Refusal 24: one of them is not nine bytes long.
    A key is released exactly when the answer is 1: test `answer == 1`, and never only that the answer is not 0,
    since a refusal is not 0 either. An interlaced picture has nine bytes of each field, which cover that field's lines
-   alone: compare both, each with its own reference, and release only if both answers are 1. */
+   alone: compare both, each with its own reference, and release only if both answers are 1.
+   What equal checksums say of two fields, and what they do not: docs/HANDBOOK.md, section 7. */
 uint64_t station_compare_checksums(const uint8_t *a, size_t a_len, const uint8_t *b, size_t b_len);
 
 /* The value of one field of a whole good sheet, by its tag, 0x21 (HalfSync) to 0x2e (TransferDelay).

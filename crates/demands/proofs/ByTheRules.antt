@@ -9,7 +9,7 @@ use lib.Dec.{leb}
 use Rattle.base.specs.Count.{run}
 use Rattle.control.specs.Control.{running, transferring}
 use Rattle.units.specs.Parameters.{rowLength}
-use Rattle.signals.specs.Signals.{black}
+use Rattle.signals.specs.Signals.{black, coloursOf}
 use Rattle.pixel.specs.Sums.{summed}
 use Rattle.generator.specs.Rows.{screen, visibleAt, shows, transferAt, heldAddress, asks, requestAt}
 use Rattle.generator.specs.Tick.{dotOf, dots, cleared, sumsAfter, seenAfter, stepWith, step, signalsWith, signals, refuses20, tickRefusal, tickOf}
@@ -26,7 +26,7 @@ module _ (m : Machine) (memory : List ℕ) (free : advanced m memory .refusal �
   number = sym (tick-number (m .regs) memory (m .generator)) ∙ free
 
   -- what is answered runs
-  runs-now : running (m .regs .control) ≡ true
+  pub runs-now : running (m .regs .control) ≡ true
   unfolding tickRefusal
   runs-now = go (running (m .regs .control)) refl number
     where
@@ -54,7 +54,7 @@ module _ (m : Machine) (memory : List ℕ) (free : advanced m memory .refusal �
   shown-dots false e = simp e
 
   shown-sums : (t : Bool) → shows (m .regs) (m .generator) ≡ t →
-      sumsAfter (m .regs) memory (m .generator) ≡ cond (not t) (clearedNow m) (summed (clearedNow m) (dots (m .regs) memory (m .generator)))
+      sumsAfter (m .regs) memory (m .generator) ≡ cond (not t) (clearedNow m) (summed (clearedNow m) (coloursOf (dots (m .regs) memory (m .generator))))
   unfolding sumsAfter cleared
   shown-sums true e = simp e
   shown-sums false e = simp e

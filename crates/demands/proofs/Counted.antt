@@ -41,7 +41,7 @@ use Rattle.machine.specs.Rules.{beginning, stored, written}
 use Rattle.machine.specs.declared.Machine.{Machine}
 use Rattle.machine.proofs.access.Passed as passed
 use Rattle.demands.specs.Asked.{Asked, of, afterAsked, afterEvery, TakenEvery}
-use Rattle.demands.specs.Demand3.{colours, atField, ticksIn, Begins, Demand3}
+use Rattle.demands.specs.Demand3.{dotsShown, atField, ticksIn, Begins, Demand3}
 use Rattle.demands.specs.Counted.{eightBits, eightBitsRunning, Counted, TotalsCounted, TotalsOfFrames, TotalsByDepth}
 use Rattle.demands.proofs.Reached.{reached-sound}
 use Rattle.demands.proofs.Third.{demand-3-reached}
@@ -52,10 +52,10 @@ unfolding totalsOf limitOf laterLimit
 totals-by-depth control other params e f = rw (e, f)
 
 -- the colours of a frame, pixel by pixel
-colours-dots : (m : Machine) (memory : List ℕ) → Demand3 m memory → colours m memory (frameTicks (screen (m .regs))) ≡ inFields (m .regs) (λ second. run (fieldDot (m .regs) second memory) 0 (pixelsSeen (m .regs) second))
+colours-dots : (m : Machine) (memory : List ℕ) → Demand3 m memory → dotsShown m memory (frameTicks (screen (m .regs))) ≡ inFields (m .regs) (λ second. run (fieldDot (m .regs) second memory) 0 (pixelsSeen (m .regs) second))
 colours-dots m memory d =
     d .coloured-frame
-    ∙ in-fields-same (m .regs) (λ second. colours (atField m memory second) memory (ticksIn m)) (λ second. run (fieldDot (m .regs) second memory) 0 (pixelsSeen (m .regs) second)) (d .coloured false (λ e. absurd (true≢false (sym e)))) (λ n. d .coloured true (λ e. n))
+    ∙ in-fields-same (m .regs) (λ second. dotsShown (atField m memory second) memory (ticksIn m)) (λ second. run (fieldDot (m .regs) second memory) 0 (pixelsSeen (m .regs) second)) (d .coloured false (λ e. absurd (true≢false (sym e)))) (λ n. d .coloured true (λ e. n))
 
 -- of every frame that is ready to start it answers the counts
 counts-of : (m : Machine) (memory : List ℕ) → Accepted (m .regs .control) (screen (m .regs)) → Begins m memory → Demand3 m memory → Counted m memory (frameTotals (screen (m .regs)))

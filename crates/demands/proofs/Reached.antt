@@ -10,7 +10,7 @@ use Rattle.picture.proofs.Machines.{picture-sound}
 use Rattle.demands.specs.Asked.{Asked, of, lent, picture, afterAsked, afterEvery}
 
 -- every call keeps the one condition, and so does any list of them
-asked-sound : (m : Machine) (call : Asked) → SoundMachine m → SoundMachine (afterAsked m call)
+pub asked-sound : (m : Machine) (call : Asked) → SoundMachine m → SoundMachine (afterAsked m call)
 unfolding advanced
 asked-sound m (of call) z = calls-sound m (call ∷ []) z
 asked-sound m (lent memory) z = advance-sound m memory z

@@ -81,7 +81,7 @@ unfolding zeros
 runs-from-beginning calls m e = ap runs e ∙ runs-since beginning calls
 
 -- what is read at #0C0 to #0C2 is the three words
-words-read : (m : Machine) → answered m 0x0C0 .refusal ≡ 0 → checksumsRead m ≡ checksumWords (m .generator .sums)
+pub words-read : (m : Machine) → answered m 0x0C0 .refusal ≡ 0 → checksumsRead m ≡ checksumWords (m .generator .sums)
 unfolding answered placeOf readRefusal valueAt checksumWords run
 words-read m e = simp (eq-eqb _ 0 e)
 

@@ -15,6 +15,8 @@ use Rattle.units.specs.Parameters.{inField, fieldTicks, rowLength}
 use Rattle.screen.specs.Limits.{Accepted}
 use Rattle.screen.specs.Totals.{frameTicks, frameVisible, roundedUp, frameTransfers, framePixels}
 use Rattle.screen.proofs.limits.Laws.{accepted-in}
+use Rattle.signals.specs.Signals.{coloursOf}
+use Rattle.signals.specs.declared.Dot.{Dot}
 use Rattle.signals.specs.declared.Signals.{Signals}
 use Rattle.registers.specs.Map.{placeOf}
 use Rattle.registers.specs.declared.Registers.{Registers}
@@ -41,7 +43,7 @@ use Rattle.picture.proofs.Machines.{ticked-generator, pictured-ticks}
 use Rattle.generator.proofs.Kept.{after-sound}
 use Rattle.demands.specs.Asked.{Asked, afterEvery}
 use Rattle.demands.proofs.Reached.{reached-sound}
-use Rattle.demands.specs.Demand3.{answer, shows, transfers, addresses, colours, places, ticksBefore, atField, Begins, Demand3}
+use Rattle.demands.specs.Demand3.{answer, shows, transfers, addresses, dotsShown, places, ticksBefore, atField, Begins, Demand3}
 
 -- what a machine answers tick by tick is what its generator's ticks answer
 module _ (m : Machine) (memory : List ℕ) where
@@ -75,7 +77,7 @@ module _ (m : Machine) (memory : List ℕ) where
   places-is n = gathered-same _ _ _ _ n (λ k l. shows-is k) (λ k. ap (λ (x : Generator). run (place r (heldAddress r x) (x .seen .0)) 0 4) (generator-is k))
 
   -- where what shows is what is visible, the colours of what is not blank are those of the visible ticks
-  colours-is : (n : ℕ) → ((k : ℕ) → k < n → isShown r memory g k ≡ visibleAt r (after r memory g k)) → colours m memory n ≡ drawn r memory g n
+  colours-is : (n : ℕ) → ((k : ℕ) → k < n → isShown r memory g k ≡ visibleAt r (after r memory g k)) → dotsShown m memory n ≡ drawn r memory g n
   colours-is n h = gathered-same _ _ _ _ n (λ k l. shows-is k ∙ h k l) (λ k. ap (λ (s : Signals). s .dots) (signals-is k))
 
 -- the frame that begins with a machine
@@ -98,7 +100,7 @@ module _ (m : Machine) (memory : List ℕ) (z : SoundMachine m) (b : Begins m me
   abbrev d : FrameDemand (m .regs) memory (m .generator)
   d = demand-3 (m .regs) memory (m .generator) ready
 
-  frame-colours : colours m memory F ≡ drawn (m .regs) memory (m .generator) F
+  frame-colours : dotsShown m memory F ≡ drawn (m .regs) memory (m .generator) F
   frame-colours = colours-is m memory F (shown-all (m .regs) memory (m .generator) ready)
 
   unrefused-frame : refusedWithin (m .regs) memory (m .generator) F ≡ false
@@ -114,9 +116,9 @@ module _ (m : Machine) (memory : List ℕ) (z : SoundMachine m) (b : Begins m me
     unfolding pictured drawnOf
     picture-free = free
 
-    picture-bytes : bufferOf (m .regs) memory (m .generator) buffer ≡ bytesOf (colours m memory F)
+    picture-bytes : bufferOf (m .regs) memory (m .generator) buffer ≡ bytesOf (coloursOf (dotsShown m memory F))
     unfolding bufferOf
-    picture-bytes = simp (eq-eqb (pictureRefusal (m .regs) memory (m .generator) (length buffer)) 0 free) (ap bytesOf (sym frame-colours))
+    picture-bytes = simp (eq-eqb (pictureRefusal (m .regs) memory (m .generator) (length buffer)) 0 free) (ap (λ (l : List Dot). bytesOf (coloursOf l)) (sym frame-colours))
 
     picture-machine : pictured m memory (length buffer) .machine ≡ ticked m memory F
     picture-machine = pictured-ticks m memory (length buffer) picture-free
@@ -175,22 +177,22 @@ module _ (m : Machine) (memory : List ℕ) (z : SoundMachine m) (b : Begins m me
     field-placed : places (atField m memory second) memory T ≡ placesOf (m .regs) second
     field-placed = rw (o .machine-is) (places-is n memory T ∙ field-places (m .regs) memory second (o .generator) (o .field-ready))
 
-    field-drew : colours (atField m memory second) memory T ≡ drawn (m .regs) memory (o .generator) T
+    field-drew : dotsShown (atField m memory second) memory T ≡ drawn (m .regs) memory (o .generator) T
     field-drew = rw (o .machine-is) (colours-is n memory T (shown-visible (m .regs) memory second (o .generator) (o .field-ready)))
 
-    field-coloured : colours (atField m memory second) memory T ≡ run (fieldDot (m .regs) second memory) 0 (pixelsSeen (m .regs) second)
+    field-coloured : dotsShown (atField m memory second) memory T ≡ run (fieldDot (m .regs) second memory) 0 (pixelsSeen (m .regs) second)
     field-coloured = field-drew ∙ field-drawn (m .regs) memory second (o .generator) (o .field-ready)
 
-    field-summed : ticked m memory (ticksBefore m second + T) .generator .sums ≡ summed none (colours (atField m memory second) memory T)
-    field-summed = ap (λ (x : Machine). x .generator .sums) (o .end-is) ∙ field-sums (m .regs) memory second (o .generator) (o .field-ready) ∙ ap (summed none) (sym field-drew)
+    field-summed : ticked m memory (ticksBefore m second + T) .generator .sums ≡ summed none (coloursOf (dotsShown (atField m memory second) memory T))
+    field-summed = ap (λ (x : Machine). x .generator .sums) (o .end-is) ∙ field-sums (m .regs) memory second (o .generator) (o .field-ready) ∙ ap (λ (l : List Dot). summed none (coloursOf l)) (sym field-drew)
 
   first-of : FieldOf (m .regs) false
   first-of e = absurd (true≢false (sym e))
 
-  fields-coloured : colours m memory F ≡ inFields (m .regs) (λ second. colours (atField m memory second) memory T)
+  fields-coloured : dotsShown m memory F ≡ inFields (m .regs) (λ second. dotsShown (atField m memory second) memory T)
   fields-coloured =
       frame-colours ∙ d .dots
-      ∙ sym (in-fields-same (m .regs) (λ second. colours (atField m memory second) memory T) (λ second. run (fieldDot (m .regs) second memory) 0 (pixelsSeen (m .regs) second)) (field-coloured false first-of) (λ n. field-coloured true (λ e. n)))
+      ∙ sym (in-fields-same (m .regs) (λ second. dotsShown (atField m memory second) memory T) (λ second. run (fieldDot (m .regs) second memory) 0 (pixelsSeen (m .regs) second)) (field-coloured false first-of) (λ n. field-coloured true (λ e. n)))
 
 -- another machine with the same registers ends its frame so too
 same-end : (m n : Machine) (memory : List ℕ) → SoundMachine m → SoundMachine n → Begins m memory → Begins n memory → n .regs ≡ m .regs →

@@ -9,7 +9,7 @@ use Rattle.base.specs.Count.{run}
 use Rattle.control.specs.Control.{forcedBlank, plain, transferring}
 use Rattle.units.specs.Parameters.{rowLength}
 use Rattle.units.specs.declared.Screen.{Screen}
-use Rattle.signals.specs.Signals.{black}
+use Rattle.signals.specs.Signals.{black, coloursOf}
 use Rattle.signals.specs.declared.Signals.{Signals}
 use Rattle.pixel.specs.Sums.{clearedAt, summed}
 use Rattle.pixel.specs.declared.Sums.{Sums}
@@ -74,7 +74,7 @@ pub record ByTheRules (m : Machine) (memory : List ℕ) : Type 0 where
       out m memory .dots
       ≡ cond (out m memory .blank) (black ∷ black ∷ black ∷ black ∷ []) (run (dotOf (m .regs) (m .generator .second) memory (heldAddress (m .regs) (m .generator)) (v m)) 0 4)
   -- each unblanked colour byte put out is added to its 24-bit sum, and nothing else is
-  pub checksums : next m memory .sums ≡ cond (out m memory .blank) (clearedNow m) (summed (clearedNow m) (out m memory .dots))
+  pub checksums : next m memory .sums ≡ cond (out m memory .blank) (clearedNow m) (summed (clearedNow m) (coloursOf (out m memory .dots)))
   -- it lies inside its field, and v counts the field's visible ticks before it
   pub placed : Placed (screenNow m) (m .generator)
   -- what it leaves: the field and the place one tick on, v, the last address, the request at the visible tick before; and every register

@@ -15,7 +15,7 @@ use Rattle.machine.specs.declared.Machine.{Machine}
 use Rattle.frame.specs.Frame.{AtStart}
 use Rattle.picture.specs.Machines.{ticked}
 use Rattle.demands.specs.Asked.{Asked, of, afterEvery, TakenEvery}
-use Rattle.demands.specs.Demand3.{answer, shows, transfers, colours, Begins}
+use Rattle.demands.specs.Demand3.{answer, shows, transfers, dotsShown, Begins}
 
 -- the program's control word: 8 bits a pixel, increment 1, transfers on. It asks for limits alone, so bit 0 is clear; the same word with bit 0
 -- set starts the screen
@@ -49,7 +49,7 @@ pub record Counted (m : Machine) (memory : List ℕ) (t : Totals) : Type 0 where
   pub not-before : (k : ℕ) → 0 < k → k < t .ticks .0 → AtStart (ticked m memory k .generator) → ⊥
   pub visible : count (shows m memory) (t .ticks .0) ≡ t .visible .0
   pub transferred : count (transfers m memory) (t .ticks .0) ≡ t .transfers
-  pub pixels : length (colours m memory (t .ticks .0)) ≡ t .pixels .0
+  pub pixels : length (dotsShown m memory (t .ticks .0)) ≡ t .pixels .0
 
 -- of a good sheet: the fourteen writes are accepted; the program refuses exactly what the machine's start is refused for; and what it does not
 -- refuse is started, and its four numbers are the counts, with any memory of a byte a pixel or more

@@ -9,6 +9,7 @@ use Rattle.base.specs.Count.{count, run}
 use Rattle.control.specs.Control.{interlaced, forcedBlank, transferring, incrementCode, increment, pixelBits}
 use Rattle.units.specs.Parameters.{fieldTicks, rowLength}
 use Rattle.screen.specs.Totals.{frameTicks, frameVisible, roundedUp, frameTransfers, framePixels}
+use Rattle.signals.specs.Signals.{coloursOf}
 use Rattle.signals.specs.declared.Dot.{Dot}
 use Rattle.pixel.specs.Sums.{none, summed}
 use Rattle.generator.specs.Rows.{screen, heldAddress, place}
@@ -35,12 +36,12 @@ shows m memory k = not (answer m memory k .signals .blank)
 abbrev pub transfers : Machine → List ℕ → ℕ → Bool
 transfers m memory k = answer m memory k .signals .transfer
 
--- the addresses answered in the first n ticks, and the colours of those that are not blank, in tick order
+-- the addresses answered in the first n ticks, and the pixels of those that are not blank, in tick order
 abbrev pub addresses : Machine → List ℕ → ℕ → List ℕ
 addresses m memory n = gathered (transfers m memory) (λ k. answer m memory k .signals .address ∷ []) n
 
-abbrev pub colours : Machine → List ℕ → ℕ → List Dot
-colours m memory n = gathered (shows m memory) (λ k. answer m memory k .signals .dots) n
+abbrev pub dotsShown : Machine → List ℕ → ℕ → List Dot
+dotsShown m memory n = gathered (shows m memory) (λ k. answer m memory k .signals .dots) n
 
 -- the picture places of these pixels, four to a tick: by the rule of the generator's ticks, since no answer names a place
 abbrev pub places : Machine → List ℕ → ℕ → List ℕ
@@ -101,17 +102,17 @@ pub record Demand3 (m : Machine) (memory : List ℕ) : Type 0 where
   -- and pixel i of a field's put out has the colour of place i of these, on the line and in the column where it goes out; the frame has both
   pub coloured :
       (second : Bool) → FieldOf (m .regs) second →
-      colours (atField m memory second) memory (ticksIn m) ≡ run (fieldDot (m .regs) second memory) 0 (pixelsSeen (m .regs) second)
-  pub coloured-frame : colours m memory (frameTicks (screen (m .regs))) ≡ inFields (m .regs) (λ second. colours (atField m memory second) memory (ticksIn m))
+      dotsShown (atField m memory second) memory (ticksIn m) ≡ run (fieldDot (m .regs) second memory) 0 (pixelsSeen (m .regs) second)
+  pub coloured-frame : dotsShown m memory (frameTicks (screen (m .regs))) ≡ inFields (m .regs) (λ second. dotsShown (atField m memory second) memory (ticksIn m))
   -- the checksums that a field leaves are the sums of all its colours, from nothing
   pub summed-up :
       (second : Bool) → FieldOf (m .regs) second →
-      ticked m memory (ticksBefore m second + ticksIn m) .generator .sums ≡ summed none (colours (atField m memory second) memory (ticksIn m))
+      ticked m memory (ticksBefore m second + ticksIn m) .generator .sums ≡ summed none (coloursOf (dotsShown (atField m memory second) memory (ticksIn m)))
   -- the picture into a buffer of the right length is not refused, and has the ticks' colours, checksums and end state
   pub pictured-now : (buffer : List ℕ) → length buffer ≡ 3 * framePixels (screen (m .regs)) → pictured m memory (length buffer) .refusal ≡ 0
   pub pictured-bytes :
       (buffer : List ℕ) → length buffer ≡ 3 * framePixels (screen (m .regs)) →
-      bufferOf (m .regs) memory (m .generator) buffer ≡ bytesOf (colours m memory (frameTicks (screen (m .regs))))
+      bufferOf (m .regs) memory (m .generator) buffer ≡ bytesOf (coloursOf (dotsShown m memory (frameTicks (screen (m .regs)))))
   pub pictured-machine :
       (buffer : List ℕ) → length buffer ≡ 3 * framePixels (screen (m .regs)) →
       pictured m memory (length buffer) .machine ≡ ticked m memory (frameTicks (screen (m .regs)))

@@ -24,6 +24,8 @@ use Rattle.generator.specs.Rows.{screen, fieldAt, visibleAt, shows, topUsed, tr
 use Rattle.generator.specs.Tick.{positionUsed, dotOf, refuses20, seenAfter, signals, signalsWith, tickRefusal, tickOf, after}
 use Rattle.generator.specs.Sound.{Sound}
 use Rattle.generator.specs.declared.Generator.{Generator}
+use Rattle.signals.specs.Signals.{coloursOf}
+use Rattle.signals.specs.declared.Dot.{Dot}
 use Rattle.signals.specs.declared.Signals.{Signals}
 use Rattle.lines.specs.Lines.{lead}
 use Rattle.frame.specs.Gather.{gathered}
@@ -302,11 +304,11 @@ module _ (r : Registers) (m : List ℕ) (f : Bool) (g : Generator) (d : FieldRea
       ∙ run-same (dotFor r f m) (fieldDot r f m) 0 0 (4 * M) (λ i l. dot-is r f ok (d .unrolled) m (d .unblanked) (0 + i) (rw zero-add l))
 
   -- and the sums that it leaves are those of what it drew
-  pub field-sums : after r m g F .sums ≡ summed none (drawn r m g F)
+  pub field-sums : after r m g F .sums ≡ summed none (coloursOf (drawn r m g F))
   unfolding fieldEnd sumsTo
   field-sums =
       let w = field-is r m f (g .asked) (d .runs) ok top-in g (d .sound .placed (d .runs)) (d .start) refl in
-      ap (λ (x : Generator). x .sums) (w .end unrefused-here) ∙ simp (d .unblanked) (ap (summed none) (sym (w .colours unrefused-here)))
+      ap (λ (x : Generator). x .sums) (w .end unrefused-here) ∙ simp (d .unblanked) (ap (λ (l : List Dot). summed none (coloursOf l)) (sym (w .colours unrefused-here)))
 
   -- it stands at its start before its first tick alone, and in its field before each
   pub field-only : {x : Bool} (k : ℕ) → k < F → AtField x (G k) → (k ≡ 0) × (x ≡ f)

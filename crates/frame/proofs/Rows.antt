@@ -1,7 +1,7 @@
 -- What one tick does to the held address, the dots, the sums and the refusal, once its place in the field is known. Assumes nothing.
 use Prim.Native.Nat.{ℕ, zero, suc, _+_, _-_, _*_, _/_, _%_, _^_, _≤_, _<_}
 use mathlib.Core.Bool.{Bool, true, false, not, cond, _&&_, true≢false}
-use mathlib.Core.List.{List}
+use mathlib.Core.List.{List, map-append}
 use mathlib.Core.Logic.{_⊎_}
 use mathlib.Core.Path.{_≡_, refl, sym, ap, _∙_}
 use native.Mathlib.Nat.{mod-lt, mod-add-mod, div-eq-of-lt-le, div-add-mod', zero-div, zero-add}
@@ -17,7 +17,7 @@ use Rattle.screen.specs.Limits.{Accepted}
 use Rattle.screen.proofs.limits.Laws.{accepted-in}
 use Rattle.registers.specs.declared.Registers.{Registers}
 use Rattle.memory.specs.Memory.{endsBeyond}
-use Rattle.signals.specs.Signals.{black}
+use Rattle.signals.specs.Signals.{black, coloursOf}
 use Rattle.pixel.specs.Sums.{none, summed}
 use Rattle.pixel.proofs.Laws.{summed-join}
 use Rattle.lines.specs.Lines.{opens}
@@ -160,12 +160,12 @@ module _ (r : Registers) (f : Bool) (m : List ℕ) where
       go true b = run-same (λ k. black) (dotFor r f m) 0 (4 * g .seen .0) 4 (λ k p. blank-dot b (4 * g .seen .0 + k))
       go false b = run-same (dotOf r f m (addressAt r f (g .seen .0)) (g .seen .0)) (dotFor r f m) 0 (4 * g .seen .0) 4 (lit-dot b (g .seen .0))
 
-  more-sums : (v : ℕ) → forcedBlank (r .control) ≡ false → summed (sumsTo r f m v) (run (dotFor r f m) (4 * v) 4) ≡ sumsTo r f m (v + 1)
+  more-sums : (v : ℕ) → forcedBlank (r .control) ≡ false → summed (sumsTo r f m v) (coloursOf (run (dotFor r f m) (4 * v) 4)) ≡ sumsTo r f m (v + 1)
   unfolding sumsTo
   more-sums v b =
       let e : 4 * v + 4 ≡ 4 * (v + 1) = omega arith in
-      let joined : summed none (run (dotFor r f m) 0 (4 * v + 4)) ≡ summed (summed none (run (dotFor r f m) 0 (4 * v))) (run (dotFor r f m) (4 * v) 4) = rw (run-append, zero-add, summed-join) in
-      simp b (sym joined ∙ ap (λ (k : ℕ). summed none (run (dotFor r f m) 0 k)) e)
+      let joined : summed none (coloursOf (run (dotFor r f m) 0 (4 * v + 4))) ≡ summed (summed none (coloursOf (run (dotFor r f m) 0 (4 * v)))) (coloursOf (run (dotFor r f m) (4 * v) 4)) = rw (run-append, zero-add, map-append, summed-join) in
+      simp b (sym joined ∙ ap (λ (k : ℕ). summed none (coloursOf (run (dotFor r f m) 0 k))) e)
 
   same-sums : (v w : ℕ) → forcedBlank (r .control) ≡ true → sumsTo r f m v ≡ sumsTo r f m w
   unfolding sumsTo
@@ -178,7 +178,7 @@ module _ (r : Registers) (f : Bool) (m : List ℕ) where
     sums-row e = go (visibleAt r g) refl (forcedBlank (r .control)) refl
       where
         go : (x : Bool) → visibleAt r g ≡ x → (b : Bool) → forcedBlank (r .control) ≡ b →
-            cond (x && not b) (summed (cleared r g) (dots r m g)) (cleared r g) ≡ sumsTo r f m (cond x (g .seen .0 + 1) (g .seen .0))
+            cond (x && not b) (summed (cleared r g) (coloursOf (dots r m g))) (cleared r g) ≡ sumsTo r f m (cond x (g .seen .0 + 1) (g .seen .0))
         go false l b eb = e
         go true l true eb = e ∙ same-sums (g .seen .0) (g .seen .0 + 1) eb
         go true l false eb = rw (e, dots-run g b l (h l)) (more-sums (g .seen .0) eb)

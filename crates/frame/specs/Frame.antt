@@ -13,7 +13,7 @@ use Rattle.screen.specs.Totals.{frameTicks}
 use Rattle.lines.specs.Lines.{fieldVisible}
 use Rattle.registers.specs.declared.Registers.{Registers}
 use Rattle.memory.specs.Memory.{endsBeyond}
-use Rattle.signals.specs.Signals.{black}
+use Rattle.signals.specs.Signals.{black, coloursOf}
 use Rattle.pixel.specs.Sums.{none, summed}
 use Rattle.signals.specs.declared.Dot.{Dot}
 use Rattle.pixel.specs.declared.Sums.{Sums}
@@ -91,7 +91,7 @@ pictureRefuses20 r m = fieldRefuses20 r m false || (screen r .interlaced && fiel
 
 -- the sums after v visible ticks of a field
 unfoldable pub sumsTo : Registers → Bool → List ℕ → ℕ → Sums
-sumsTo r second m v = cond (forcedBlank (r .control)) none (summed none (run (dotFor r second m) 0 (4 * v)))
+sumsTo r second m v = cond (forcedBlank (r .control)) none (summed none (coloursOf (run (dotFor r second m) 0 (4 * v))))
 
 -- the generator that a whole field leaves: of the one it began with nothing but, where no tick is visible, the last request
 unfoldable pub fieldEnd : Registers → Bool → List ℕ → Bool → Generator

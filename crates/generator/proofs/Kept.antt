@@ -18,6 +18,7 @@ use Rattle.screen.proofs.limits.Laws.{accepted-in}
 use Rattle.units.specs.declared.Screen.{Screen}
 use Rattle.registers.specs.File.{InWidths}
 use Rattle.registers.specs.declared.Registers.{Registers}
+use Rattle.signals.specs.Signals.{coloursOf}
 use Rattle.pixel.proofs.Laws.{none-below, where-below}
 use Rattle.pixel.specs.declared.Sums.{Sums}
 use Rattle.lines.specs.Lines.{opens, closes, nextSecond, nextHalf, nextAt, tickNumber, visibleBefore}
@@ -206,7 +207,7 @@ module _ (r : Registers) (widths : InWidths r) where
   step-rolled : (m : List ℕ) (g : Generator) → Rolled g → Rolled (stepWith r g (sumsAfter r m g))
   unfolding stepWith sumsAfter cleared
   step-rolled m g p =
-      record { held = held-rolled g (p .held); sums = where-below (opens (fieldAt r g) (g .half .0) (g .at .0)) (shows r g) (g .sums) (dots r m g) (p .sums) }
+      record { held = held-rolled g (p .held); sums = where-below (opens (fieldAt r g) (g .half .0) (g .at .0)) (shows r g) (g .sums) (coloursOf (dots r m g)) (p .sums) }
 
   either-rolled : (x : Bool) (a b : Ticked) → Rolled (a .next) → Rolled (b .next) → Rolled (cond x a b .next)
   either-rolled true a b p q = p

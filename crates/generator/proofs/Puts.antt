@@ -9,7 +9,7 @@ use Rattle.base.specs.Count.{count, some, run}
 use Rattle.control.specs.Control.{running, forcedBlank, transferring, cursorOn, pixelBits}
 use Rattle.units.specs.declared.Screen.{Screen}
 use Rattle.registers.specs.declared.Registers.{Registers}
-use Rattle.signals.specs.Signals.{black, silent}
+use Rattle.signals.specs.Signals.{black, coloursOf, silent}
 use Rattle.signals.specs.declared.Dot.{Dot}
 use Rattle.signals.specs.declared.Signals.{Signals}
 use Rattle.memory.specs.Memory.{endsBeyond}
@@ -107,9 +107,9 @@ module _ (r : Registers) (m : List ℕ) (g : Generator) (t : Stand) (st : Stands
   unfolding dots run
   dots-dark s = simp (← (st .shows-is), s)
 
-  pub sums-by : (four : List Dot) → four ≡ dots r m g → (out : Sums) → out ≡ summedWhere (t .shows) (clearedAt (t .moment .opens) (g .sums)) four → out ≡ sumsAfter r m g
+  pub sums-by : (four : List Dot) → four ≡ dots r m g → (colours : List ℕ) → colours ≡ coloursOf four → (out : Sums) → out ≡ summedWhere (t .shows) (clearedAt (t .moment .opens) (g .sums)) colours → out ≡ sumsAfter r m g
   unfolding sumsAfter cleared
-  sums-by four e out eo = eo ∙ rw (e, st .shows-is, moment-opens r g t st)
+  sums-by four e colours ec out eo = eo ∙ rw (ec, e, st .shows-is, moment-opens r g t st)
 
 -- what is asked from a tick on: a visible one asks anew
 asked-by : (r : Registers) (g : Generator) (t : Stand) → Stands r g t → cond (t .moment .visible) (t .asking) (g .asked) ≡ cond (t .moment .visible) (asks (r .control) (screen r) (g .seen .0)) (g .asked)

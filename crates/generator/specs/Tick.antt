@@ -7,7 +7,7 @@ use lib.Dec.{eqb}
 use Rattle.base.specs.Count.{some, run}
 use Rattle.control.specs.Control.{running, plain, transferring, pixelBits}
 use Rattle.registers.specs.declared.Registers.{Registers}
-use Rattle.signals.specs.Signals.{black, silent}
+use Rattle.signals.specs.Signals.{black, coloursOf, silent}
 use Rattle.signals.specs.declared.Dot.{Dot}
 use Rattle.signals.specs.declared.Signals.{Signals}
 use Rattle.memory.specs.Memory.{endsBeyond}
@@ -51,7 +51,7 @@ unfoldable pub cleared : Registers → Generator → Sums
 cleared r g = clearedAt (opens (fieldAt r g) (g .half .0) (g .at .0)) (g .sums)
 
 unfoldable pub sumsAfter : Registers → List ℕ → Generator → Sums
-sumsAfter r m g = summedWhere (shows r g) (cleared r g) (dots r m g)
+sumsAfter r m g = summedWhere (shows r g) (cleared r g) (coloursOf (dots r m g))
 
 -- v counts a field's visible ticks from 0
 unfoldable pub seenAfter : Registers → Generator → ℕ

@@ -112,7 +112,8 @@ fn running_tick(
         };
     }
     let dots = output::dots_of(n, colours, palette, store, g, t, memory);
-    let sums = g.sums.tallied(t.moment.opens, t.shows, dots);
+    let four = signals::colours(dots);
+    let sums = g.sums.tallied(t.moment.opens, t.shows, four);
     let next = output::next_of(n, g, t, sums);
     let signals = output::signals_of(n, g, t, dots);
     Ticked {

@@ -1,3 +1,3 @@
 -- Laws of lines and frames.
-mod Moments
+pub mod Moments
 pub mod Halves

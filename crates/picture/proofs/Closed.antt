@@ -1,13 +1,13 @@
 -- The picture that the code draws is its fields', which is the frame's, and so the ticks'. Assumes nothing.
 use Prim.Native.Nat.{ℕ, zero, suc, _+_, _-_, _*_, _/_, _%_, _^_, _≤_, _<_}
 use mathlib.Core.Bool.{Bool, true, false, not, cond, _&&_, _||_, true≢false, or-false}
-use mathlib.Core.List.{List, [], _++_}
+use mathlib.Core.List.{List, [], _++_, map-append}
 use mathlib.Core.Path.{_≡_, refl, sym, ap, _∙_}
 use native.Mathlib.Nat.{pow-suc}
 use native.Mathlib.Omega.{arith}
 use borrow.Author.Tests.{eqb-true, ne-eqb}
 use lib.Dec.{eqb}
-use lib.ListN.{length, replicate, length-append}
+use lib.ListN.{length, replicate, length-append, length-map}
 use lib.Pow.{pow-mono}
 use lib.Seq.{sets}
 use Rattle.base.specs.Count.{run}
@@ -23,11 +23,12 @@ use Rattle.memory.specs.Memory.{bitsAt, pixelShown}
 use Rattle.colour.specs.Colour.{maskedPalette}
 use Rattle.cursor.specs.Cursor.{codeOver}
 use Rattle.pixel.specs.Dot.{dotAt}
-use Rattle.signals.specs.Signals.{black}
+use Rattle.signals.specs.Signals.{black, coloursOf}
 use Rattle.signals.specs.declared.Dot.{Dot}
 use Rattle.cursor.specs.Cursor.{over}
 use Rattle.pixel.specs.Sums.{none}
 use Rattle.pixel.specs.declared.Sums.{Sums}
+use Rattle.pixel.proofs.Laws.{colours-run}
 use Rattle.colour.proofs.Laws.{masked-palette-entry}
 use Rattle.generator.specs.Rows.{screen, place, asks}
 use Rattle.generator.specs.Tick.{inLines, dotOf, after}
@@ -39,8 +40,8 @@ use Rattle.frame.proofs.Gather.{in-fields-one, in-fields-two}
 use Rattle.frame.proofs.Whole.{first-end, whole}
 use Rattle.frame.proofs.Demand.{frame-pixels}
 use Rattle.picture.specs.Picture.{bytesFor, refuses22, pictureRefusal, drawnOf, bufferOf}
-use Rattle.picture.specs.Span.{bytesOf, Painted, Through, through, dotThrough}
-use Rattle.picture.specs.Plan.{seenBefore, planOf, Drawable, addressIn, placeIn, dotIn, refusesIn, endIn}
+use Rattle.picture.specs.Span.{bytesOf, Painted, Through, through, colourThrough}
+use Rattle.picture.specs.Plan.{seenBefore, planOf, Drawable, addressIn, placeIn, colourIn, refusesIn, endIn}
 use Rattle.picture.specs.declared.plan.Plan.{Plan}
 use Rattle.picture.proofs.span.Spans.{stored-all, stored-both}
 
@@ -74,15 +75,15 @@ module _ (r : Registers) (second : Bool) (m : List ℕ) where
   drawnThrough = through (r .control) (r .position) (maskedPalette (r .palette) (r .mask)) (r .store) (r .colours) m
 
   -- the mask applied to the palette once is the mask applied to each pixel
-  dot-same : (i : ℕ) → dotIn (planOf r second) drawnThrough i ≡ dotOf r second m (addressAt r second (i / 4)) (i / 4) (i % 4)
-  unfolding dotIn dotThrough planOf placeIn addressIn dotOf dotAt place rowAddress
-  dot-same i =
-      ap (λ (below : ℕ). record { colour = over (r .colours) (codeOver (r .control) (r .position) (r .store) (4 * (inLines r second (i / 4) % screen r .display .0) + i % 4) (inLines r second (i / 4) / screen r .display .0)) below })
+  colour-same : (i : ℕ) → colourIn (planOf r second) drawnThrough i ≡ dotOf r second m (addressAt r second (i / 4)) (i / 4) (i % 4) .colour
+  unfolding colourIn colourThrough planOf placeIn addressIn dotOf dotAt place rowAddress
+  colour-same i =
+      ap (λ (below : ℕ). over (r .colours) (codeOver (r .control) (r .position) (r .store) (4 * (inLines r second (i / 4) % screen r .display .0) + i % 4) (inLines r second (i / 4) / screen r .display .0)) below)
       (masked-palette-entry (r .palette) (r .mask) _ (pixel-small (r .control) m (place r (addressAt r second (i / 4)) (i / 4) (i % 4))))
 
-  dot-link : forcedBlank (r .control) ≡ false → (i : ℕ) → dotIn (planOf r second) drawnThrough i ≡ dotFor r second m i
+  colour-link : forcedBlank (r .control) ≡ false → (i : ℕ) → colourIn (planOf r second) drawnThrough i ≡ dotFor r second m i .colour
   unfolding dotFor
-  dot-link e i = dot-same i ∙ simp e
+  colour-link e i = colour-same i ∙ simp e
 
   -- forced blank: black dots
   module _ (e : forcedBlank (r .control) ≡ true) where
@@ -90,7 +91,7 @@ module _ (r : Registers) (second : Bool) (m : List ℕ) where
     unfolding dotFor
     black-link i = simp e
 
-    black-bytes : (from n : ℕ) → bytesOf (run (dotFor r second m) from n) ≡ replicate (3 * n) 0
+    black-bytes : (from n : ℕ) → bytesOf (coloursOf (run (dotFor r second m) from n)) ≡ replicate (3 * n) 0
     unfolding bytesOf run
     black-bytes from zero = refl
     black-bytes from (suc n) =
@@ -116,7 +117,7 @@ module _ (r : Registers) (second : Bool) (m : List ℕ) where
 
     -- what is to be shown of a field painted
     abbrev Field : Bool → List ℕ → List ℕ → Sums → Type 0
-    Field f before after s = (s ≡ sumsTo r f m (p .visible)) × (after ≡ sets before (12 * p .before) (bytesOf (fieldDots r m f)))
+    Field f before after s = (s ≡ sumsTo r f m (p .visible)) × (after ≡ sets before (12 * p .before) (bytesOf (coloursOf (fieldDots r m f))))
 
     pub field-black : forcedBlank (r .control) ≡ true → (s : Sums) (before after : List ℕ) → s ≡ none → after ≡ sets before (12 * p .before) (replicate (12 * (p .before + p .visible) - 12 * p .before) 0) → Field second before after s
     unfolding sumsTo
@@ -125,15 +126,16 @@ module _ (r : Registers) (second : Bool) (m : List ℕ) where
         (z ∙ simp e, a ∙ rw (n, ← (black-bytes e 0 (pixelsSeen r second))))
 
     pub field-lit : forcedBlank (r .control) ≡ false → (table : List ℕ) → table ≡ maskedPalette (r .palette) (r .mask) → {before after : List ℕ} {s : Sums} →
-        Painted before (12 * p .before) none (run (dotIn p (through (p .control) (p .position) table (r .store) (r .colours) m)) 0 (4 * p .visible)) after s → Field second before after s
+        Painted before (12 * p .before) none (run (colourIn p (through (p .control) (p .position) table (r .store) (r .colours) m)) 0 (4 * p .visible)) after s → Field second before after s
     unfolding sumsTo planOf
     field-lit e table et {before} {after} {s} d =
-        let same : run (dotIn (planOf r second) drawnThrough) 0 (pixelsSeen r second) ≡ fieldDots r m second = run-same (dotIn (planOf r second) drawnThrough) (dotFor r second m) 0 0 (pixelsSeen r second) (λ k l. dot-link e (0 + k)) in
-        let q : Painted before (12 * seenBefore r second) none (fieldDots r m second) after s = rw same at (rw (ep, et) at d) in
+        let same : run (colourIn (planOf r second) drawnThrough) 0 (pixelsSeen r second) ≡ coloursOf (fieldDots r m second) =
+        run-same (colourIn (planOf r second) drawnThrough) (λ i. dotFor r second m i .colour) 0 0 (pixelsSeen r second) (λ k l. colour-link e (0 + k)) ∙ sym (colours-run (dotFor r second m) 0 (pixelsSeen r second)) in
+        let q : Painted before (12 * seenBefore r second) none (coloursOf (fieldDots r m second)) after s = rw same at (rw (ep, et) at d) in
         (q .added ∙ rw visible-link (simp e), q .stored ∙ rw before-link)
 
     pub field-drawn : (asked : Bool) (n : Generator) (s : Sums) (before after : List ℕ) → Field (p .second) before after s → n ≡ endIn p asked s →
-        (n ≡ fieldEnd r second m asked) × (after ≡ sets before (12 * seenBefore r second) (bytesOf (fieldDots r m second)))
+        (n ≡ fieldEnd r second m asked) × (after ≡ sets before (12 * seenBefore r second) (bytesOf (coloursOf (fieldDots r m second))))
     unfolding planOf
     field-drawn asked n s before after f e =
         let same : p .second ≡ second = rw ep in
@@ -172,20 +174,20 @@ module _ (r : Registers) (m : List ℕ) (ok : Drawable r) (b : List ℕ) (size :
     pub fits-second : t ≡ true → 12 * (seenBefore r true + ticksSeen r true) ≤ length b
     fits-second e = omega (arith, rw (two e) at all, length-append (part false) (part true), seen false, seen true)
 
-    module _ (asked : Bool) (first : Generator) (b₁ : List ℕ) (ef : first ≡ fieldEnd r false m asked) (eb : b₁ ≡ sets b (12 * seenBefore r false) (bytesOf (part false))) where
+    module _ (asked : Bool) (first : Generator) (b₁ : List ℕ) (ef : first ≡ fieldEnd r false m asked) (eb : b₁ ≡ sets b (12 * seenBefore r false) (bytesOf (coloursOf (part false)))) where
       between : first ≡ fieldEnd r false m false
       between = ef ∙ first-end r (ok .accepted) m asked false
 
-      pub frame-one : t ≡ false → (first ≡ frameEnd r m) × (b₁ ≡ bytesOf (frameDots r m))
+      pub frame-one : t ≡ false → (first ≡ frameEnd r m) × (b₁ ≡ bytesOf (coloursOf (frameDots r m)))
       unfolding frameEnd
-      frame-one e = (between ∙ sym (simp (format r ∙ sym et ∙ e)), rw (one e) (eb ∙ stored-all b (part false) (rw (one e) at all)))
+      frame-one e = (between ∙ sym (simp (format r ∙ sym et ∙ e)), rw (one e) (eb ∙ stored-all b (coloursOf (part false)) (rw length-map (rw (one e) at all))))
 
-      pub frame-two : t ≡ true → (next : Generator) (b₂ : List ℕ) → next ≡ fieldEnd r true m (first .asked) → b₂ ≡ sets b₁ (12 * seenBefore r true) (bytesOf (part true)) →
-          (next ≡ frameEnd r m) × (b₂ ≡ bytesOf (frameDots r m))
+      pub frame-two : t ≡ true → (next : Generator) (b₂ : List ℕ) → next ≡ fieldEnd r true m (first .asked) → b₂ ≡ sets b₁ (12 * seenBefore r true) (bytesOf (coloursOf (part true))) →
+          (next ≡ frameEnd r m) × (b₂ ≡ bytesOf (coloursOf (frameDots r m)))
       unfolding frameEnd
       frame-two e next b₂ en eb₂ = (
         en ∙ ap (λ (g : Generator). fieldEnd r true m (g .asked)) between ∙ sym (simp (format r ∙ sym et ∙ e)),
-        rw (two e) (eb₂ ∙ rw eb (stored-both b (part false) (part true) (12 * ticksSeen r false) (omega (arith, seen false)) (rw (two e) at all))),
+        rw (two e) (rw map-append (eb₂ ∙ rw eb (stored-both b (coloursOf (part false)) (coloursOf (part true)) (12 * ticksSeen r false) (rw length-map (omega (arith, seen false))) (rw (← map-append, length-map) (rw (two e) at all))))),
       )
 
 four : (a b c d : Bool) → (not a || not (not b && (c && d))) ≡ false → (a ≡ true) × (b ≡ false) × (c ≡ true) × (d ≡ true)
@@ -250,11 +252,11 @@ module _ (r : Registers) (m : List ℕ) (g : Generator) (before : List ℕ) (n :
     pub fits-free : length before ≡ 3 * framePixels (screen r)
     fits-free = clear .fits
 
-    pub drawn-whole : (next : Generator) (after′ : List ℕ) → next ≡ frameEnd r m → after′ ≡ bytesOf (frameDots r m) →
+    pub drawn-whole : (next : Generator) (after′ : List ℕ) → next ≡ frameEnd r m → after′ ≡ bytesOf (coloursOf (frameDots r m)) →
         (record { refusal = 0; next = next } ≡ drawnOf r m g (length before)) × (after′ ≡ bufferOf r m g before)
     unfolding drawnOf bufferOf
     drawn-whole next after′ ee ea =
         let w = ticks r g sound (clear .begins) m in
         let near = sym (w .refusal) ∙ clear .near in
         let zero = sym en ∙ z in
-        (simp (zero, ee ∙ sym (w .end near)), simp zero (ea ∙ ap bytesOf (sym (w .colours near))))
+        (simp (zero, ee ∙ sym (w .end near)), simp zero (ea ∙ ap (λ (l : List Dot). bytesOf (coloursOf l)) (sym (w .colours near))))

@@ -8,6 +8,7 @@ use lib.ListN.{length}
 use Rattle.control.specs.Control.{running}
 use Rattle.screen.specs.Totals.{frameTicks, framePixels}
 use Rattle.registers.specs.declared.Registers.{Registers}
+use Rattle.signals.specs.Signals.{coloursOf}
 use Rattle.picture.specs.Span.{bytesOf}
 use Rattle.generator.specs.Counters.{isStart}
 use Rattle.generator.specs.Rows.{screen}
@@ -47,4 +48,4 @@ drawnOf r m g size =
 -- the buffer holds the colours of the frame's visible ticks, joined; a refusal leaves it as it was
 unfoldable pub bufferOf : Registers → List ℕ → Generator → List ℕ → List ℕ
 bufferOf r m g before =
-    cond (eqb (pictureRefusal r m g (length before)) 0) (bytesOf (drawn r m g (frameTicks (screen r)))) before
+    cond (eqb (pictureRefusal r m g (length before)) 0) (bytesOf (coloursOf (drawn r m g (frameTicks (screen r))))) before

@@ -12,8 +12,7 @@ use Rattle.lines.specs.Lines.{lead}
 use Rattle.registers.specs.declared.Registers.{Registers}
 use Rattle.request.specs.Request.{asking}
 use Rattle.memory.specs.Memory.{endsBeyond}
-use Rattle.signals.specs.declared.Dot.{Dot}
-use Rattle.picture.specs.Span.{Through, dotThrough}
+use Rattle.picture.specs.Span.{Through, colourThrough}
 use Rattle.pixel.specs.declared.Sums.{Sums}
 use Rattle.generator.specs.Rows.{screen, topUsed}
 use Rattle.generator.specs.declared.Generator.{Generator}
@@ -67,8 +66,8 @@ unfoldable pub placeIn : Plan → ℕ → ℕ
 placeIn p i = (addressIn p (i / 4) / p .divisor * p .row + i / 4 % p .row) * 4 + i % 4
 
 -- its colour, with the cursor: the lead stood before the first of the field's lines
-unfoldable pub dotIn : Plan → Through → ℕ → Dot
-dotIn p t i = dotThrough t (placeIn p i) (4 * ((i / 4 + p .lead) % p .display) + i % 4) ((i / 4 + p .lead) / p .display)
+unfoldable pub colourIn : Plan → Through → ℕ → ℕ
+colourIn p t i = colourThrough t (placeIn p i) (4 * ((i / 4 + p .lead) % p .display) + i % 4) ((i / 4 + p .lead) / p .display)
 
 unfoldable pub refusesIn : Plan → List ℕ → Bool
 refusesIn p m =

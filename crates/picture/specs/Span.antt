@@ -9,21 +9,20 @@ use Rattle.memory.specs.Memory.{pixelShown}
 use Rattle.base.specs.Channels.{red, green, blue}
 use Rattle.cursor.specs.Cursor.{over}
 use Rattle.pixel.specs.Sums.{summed}
-use Rattle.signals.specs.declared.Dot.{Dot}
 use Rattle.pixel.specs.declared.Sums.{Sums}
 use Rattle.cursor.specs.Cursor.{codeOver}
 use Rattle.picture.specs.Stretch.{Small}
 use Rattle.picture.specs.declared.stretch.Stretch.{Stretch}
 
--- red, green, blue for each dot, in order
-unfoldable pub bytesOf : List Dot → List ℕ
+-- red, green, blue for each colour, in order
+unfoldable pub bytesOf : List ℕ → List ℕ
 bytesOf [] = []
-bytesOf (dot ∷ rest) = red (dot .colour) ∷ green (dot .colour) ∷ blue (dot .colour) ∷ bytesOf rest
+bytesOf (colour ∷ rest) = red colour ∷ green colour ∷ blue colour ∷ bytesOf rest
 
--- dots are painted: their bytes are stored from `at` on, all other bytes stand, and the sums have them added
-pub record Painted (before : List ℕ) (at : ℕ) (s : Sums) (dots : List Dot) (after : List ℕ) (t : Sums) : Type 0 where
-  pub stored : after ≡ sets before at (bytesOf dots)
-  pub added : t ≡ summed s dots
+-- colours are painted: their bytes are stored from `at` on, all other bytes stand, and the sums have them added
+pub record Painted (before : List ℕ) (at : ℕ) (s : Sums) (colours : List ℕ) (after : List ℕ) (t : Sums) : Type 0 where
+  pub stored : after ≡ sets before at (bytesOf colours)
+  pub added : t ≡ summed s colours
 
 -- what colours are looked up through: the control, the cursor's position, the masked palette, the cursor's store and colours, the memory
 pub record Through : Type 0 where
@@ -43,21 +42,21 @@ abbrev pub plainColour : ℕ → List ℕ → List ℕ → ℕ → ℕ
 plainColour control table memory place = getD table (pixelShown control memory place) 0
 
 -- pixel j of a stretch whose first stands at a place
-abbrev pub plainDot : ℕ → List ℕ → List ℕ → ℕ → ℕ → Dot
-plainDot control table memory from j = record { colour = plainColour control table memory (from + j) }
+abbrev pub uncoveredColour : ℕ → List ℕ → List ℕ → ℕ → ℕ → ℕ
+uncoveredColour control table memory from j = plainColour control table memory (from + j)
 
 -- pixel x of line y, which stands at a place
-unfoldable pub dotThrough : Through → ℕ → ℕ → ℕ → Dot
-dotThrough t place x y =
-    record { colour = over (t .colours) (codeOver (t .control) (t .position) (t .store) x y) (plainColour (t .control) (t .table) (t .memory) place) }
+unfoldable pub colourThrough : Through → ℕ → ℕ → ℕ → ℕ
+colourThrough t place x y =
+    over (t .colours) (codeOver (t .control) (t .position) (t .store) x y) (plainColour (t .control) (t .table) (t .memory) place)
 
 -- pixel j of a stretch, with the cursor
-unfoldable pub coveredDot : Through → Stretch → ℕ → Dot
-coveredDot t s j = dotThrough t (s .from + j) (s .x + j) (s .y)
+unfoldable pub coveredColour : Through → Stretch → ℕ → ℕ
+coveredColour t s j = colourThrough t (s .from + j) (s .x + j) (s .y)
 
 -- all its pixels are painted
 abbrev pub Covered : Through → Stretch → List ℕ → Sums → List ℕ → Sums → Type 0
-Covered t s before sums after sums′ = Painted before (s .at) sums (run (coveredDot t s) 0 (s .count)) after sums′
+Covered t s before sums after sums′ = Painted before (s .at) sums (run (coveredColour t s) 0 (s .count)) after sums′
 
 -- of one that fits, the pixels from number `first` up to, not including, `end`
 pub record Part (s : Stretch) (first end size : ℕ) : Type 0 where

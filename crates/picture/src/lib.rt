@@ -12,6 +12,7 @@ ghost use lib.ListN.{length, replicate};
 ghost use lib.Seq.{sets};
 ghost use Rattle.base.specs.Sum.{capped};
 ghost use Rattle.screen.specs.Totals.{framePixels};
+ghost use Rattle.signals.specs.Signals.{coloursOf};
 ghost use Rattle.picture.specs.Span.{bytesOf};
 ghost use Rattle.generator.specs.Rows.{screen};
 ghost use Rattle.generator.specs.Sound.{Sound};
@@ -96,7 +97,7 @@ fn paint_field(r: Registers, p: Plan, memory: &[u8], buffer: &mut [u8]) -> Sums
     requires { ⌜ 12 * (p .before + p .visible) ≤ length (now buffer) ⌝ }
     ensures sums { λ s. ⌜ s ≡ sumsTo r (p .second) (now (memory .entry)) (p .visible) ⌝ }
     ensures bytes { λ _. ⌜
-        now (buffer .exit) ≡ sets (now (buffer .entry)) (12 * p .before) (bytesOf (fieldDots r (now (memory .entry)) (p .second))) ⌝ }
+        now (buffer .exit) ≡ sets (now (buffer .entry)) (12 * p .before) (bytesOf (coloursOf (fieldDots r (now (memory .entry)) (p .second)))) ⌝ }
 {
     let palette = r.palette;
     let store = r.store;
@@ -148,7 +149,7 @@ fn draw_field(
     requires { ⌜ 12 * (seenBefore r second + ticksSeen r second) ≤ length (now buffer) ⌝ }
     ensures end { λ n. ⌜ n ≡ fieldEnd r second (now (memory .entry)) (g .asked) ⌝ }
     ensures bytes { λ _. ⌜
-        now (buffer .exit) ≡ sets (now (buffer .entry)) (12 * seenBefore r second) (bytesOf (fieldDots r (now (memory .entry)) second)) ⌝ }
+        now (buffer .exit) ≡ sets (now (buffer .entry)) (12 * seenBefore r second) (bytesOf (coloursOf (fieldDots r (now (memory .entry)) second))) ⌝ }
 {
     let p = plan::plan_of(r, second);
     let sums = paint_field(r, p, memory, buffer);
@@ -160,7 +161,7 @@ fn draw_frame(r: Registers, g: Generator, memory: &[u8], buffer: &mut [u8]) -> G
     requires { ⌜ Drawable r ⌝ }
     requires { ⌜ length (now buffer) ≡ 3 * framePixels (screen r) ⌝ }
     ensures end { λ n. ⌜ n ≡ frameEnd r (now (memory .entry)) ⌝ }
-    ensures bytes { λ _. ⌜ now (buffer .exit) ≡ bytesOf (frameDots r (now (memory .entry))) ⌝ }
+    ensures bytes { λ _. ⌜ now (buffer .exit) ≡ bytesOf (coloursOf (frameDots r (now (memory .entry)))) ⌝ }
 {
     let interlaced = control::is_interlaced(r.control);
     let first = draw_field(r, false, g, memory, buffer);

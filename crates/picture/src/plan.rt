@@ -7,7 +7,7 @@ ghost use Rattle.control.specs.Control.{pixelBits};
 ghost use Rattle.memory.specs.Memory.{endsBeyond};
 ghost use Rattle.pixel.specs.Sums.{none};
 ghost use Rattle.picture.specs.Span.{Painted, through};
-ghost use Rattle.picture.specs.Plan.{planOf, Drawable, Sized, addressIn, placeIn, dotIn, refusesIn, Cut};
+ghost use Rattle.picture.specs.Plan.{planOf, Drawable, Sized, addressIn, placeIn, colourIn, refusesIn, Cut};
 use crate::span;
 use crate::stretch::Stretch;
 use pixel::Sums;
@@ -148,7 +148,7 @@ pub fn draw_rows(
     ensures painted { λ s. ⌜
         Painted (now (buffer .entry)) (12 * p .before) none
         (run
-        (dotIn p (through (p .control) (p .position) (now (table .entry)) (now (store .entry)) (now (colours .entry)) (now (memory .entry))))
+        (colourIn p (through (p .control) (p .position) (now (table .entry)) (now (store .entry)) (now (colours .entry)) (now (memory .entry))))
         0 (4 * p .visible))
         (now (buffer .exit)) s ⌝ }
 {

@@ -4,18 +4,17 @@ ghost use mathlib.Core.List.{[], _∷_};
 ghost use Prim.Native.Nat.{_+_, _-_, _*_, _≤_};
 ghost use lib.ListN.{length};
 ghost use Rattle.base.specs.Count.{run};
-ghost use Rattle.picture.specs.Span.{Painted, through, plainColour, plainDot, coveredDot, Covered, Part};
+ghost use Rattle.picture.specs.Span.{Painted, through, plainColour, uncoveredColour, coveredColour, Covered, Part};
 ghost use Rattle.picture.specs.Stretch.{Small};
 use crate::stretch;
 use crate::stretch::Stretch;
 use base::channels;
 use pixel::Sums;
-use signals::Dot;
 
 // One pixel put from k on: red, green and blue stored, its colour added.
 fn put(buffer: &mut [u8], k: usize, colour: u32, sums: Sums) -> Sums
     requires { ⌜ k + 3 ≤ length (now buffer) ⌝ }
-    ensures painted { λ s. ⌜ Painted (now (buffer .entry)) k sums (record { colour = colour } ∷ []) (now (buffer .exit)) s ⌝ }
+    ensures painted { λ s. ⌜ Painted (now (buffer .entry)) k sums (colour ∷ []) (now (buffer .exit)) s ⌝ }
 {
     let red = channels::red_byte(colour);
     let green = channels::green_byte(colour);
@@ -23,7 +22,7 @@ fn put(buffer: &mut [u8], k: usize, colour: u32, sums: Sums) -> Sums
     buffer[k] = red;
     buffer[k + 1] = green;
     buffer[k + 2] = blue;
-    sums.added(Dot { colour })
+    sums.added(colour)
 }
 
 // The colour of a place, without the cursor.
@@ -48,7 +47,7 @@ fn draw_plain(
     requires { ⌜ Part s first end (length (now buffer)) ⌝ }
     ensures painted { λ t. ⌜
         Painted (now (buffer .entry)) (s .at + 3 * first) sums
-        (run (plainDot control (now (table .entry)) (now (memory .entry)) (s .from)) first (end - first))
+        (run (uncoveredColour control (now (table .entry)) (now (memory .entry)) (s .from)) first (end - first))
         (now (buffer .exit)) t ⌝ }
 {
     let from = s.from;
@@ -81,7 +80,7 @@ fn draw_under(
     ensures painted { λ t. ⌜
         Painted (now (buffer .entry)) (s .at + 3 * first) sums
         (run
-        (coveredDot (through control position (now (table .entry)) (now (store .entry)) (now (colours .entry)) (now (memory .entry))) s)
+        (coveredColour (through control position (now (table .entry)) (now (store .entry)) (now (colours .entry)) (now (memory .entry))) s)
         first (end - first))
         (now (buffer .exit)) t ⌝ }
 {

@@ -86,7 +86,7 @@ fn green_alone(colour: u32) -> u32
 }
 
 impl Sums {
-    // The sums before any dot.
+    // The sums before any colour.
     pub fn none() -> Sums
         ensures sums { λ r. ⌜ r ≡ none ⌝ }
     {
@@ -97,13 +97,13 @@ impl Sums {
         }
     }
 
-    // Each byte of a dot added to its sum.
-    pub fn added(self, dot: Dot) -> Sums
-        ensures sums { λ r. ⌜ r ≡ added self dot ⌝ }
+    // Each byte of a colour added to its sum.
+    pub fn added(self, colour: u32) -> Sums
+        ensures sums { λ r. ⌜ r ≡ added self colour ⌝ }
     {
-        let red = base::wide(channels::red_byte(dot.colour));
-        let green = base::wide(channels::green_byte(dot.colour));
-        let blue = base::wide(channels::blue_byte(dot.colour));
+        let red = base::wide(channels::red_byte(colour));
+        let green = base::wide(channels::green_byte(colour));
+        let blue = base::wide(channels::blue_byte(colour));
         Sums {
             red: base::rolled_sum(self.red, red),
             green: base::rolled_sum(self.green, green),
@@ -111,22 +111,16 @@ impl Sums {
         }
     }
 
-    // Four dots added, a channel's four bytes at once: a sum rolls over as if one by one.
-    fn with_four(self, four: [Dot; 4]) -> Sums
+    // Four colours added, a channel's four bytes at once: a sum rolls over as if one by one.
+    fn with_four(self, four: [u32; 4]) -> Sums
         ensures sums { λ r. ⌜ r ≡ summed self four ⌝ }
     {
         let a = four[0];
         let b = four[1];
         let c = four[2];
         let d = four[3];
-        let both = red_and_blue(a.colour)
-            + red_and_blue(b.colour)
-            + red_and_blue(c.colour)
-            + red_and_blue(d.colour);
-        let green = green_alone(a.colour)
-            + green_alone(b.colour)
-            + green_alone(c.colour)
-            + green_alone(d.colour);
+        let both = red_and_blue(a) + red_and_blue(b) + red_and_blue(c) + red_and_blue(d);
+        let green = green_alone(a) + green_alone(b) + green_alone(c) + green_alone(d);
         Sums {
             red: base::rolled_sum(self.red, both / 0x10000),
             green: base::rolled_sum(self.green, green / 0x100),
@@ -134,8 +128,8 @@ impl Sums {
         }
     }
 
-    // The sums after a tick: cleared where it opens VDisplay, and its four pixels added where it shows them.
-    pub fn tallied(self, opens: bool, shows: bool, four: [Dot; 4]) -> Sums
+    // The sums after a tick: cleared where it opens VDisplay, and its four colours added where it shows them.
+    pub fn tallied(self, opens: bool, shows: bool, four: [u32; 4]) -> Sums
         ensures sums { λ r. ⌜ r ≡ summedWhere shows (clearedAt opens self) four ⌝ }
     {
         let before = chosen(opens, Sums::none(), self);

@@ -14,7 +14,7 @@ use Rattle.base.specs.Count.{run}
 use Rattle.base.proofs.Run.{run-length, run-entry}
 use Rattle.screen.specs.Totals.{frameTicks, framePixels}
 use Rattle.registers.specs.declared.Registers.{Registers}
-use Rattle.signals.specs.Signals.{black}
+use Rattle.signals.specs.Signals.{black, coloursOf}
 use Rattle.signals.specs.declared.Dot.{Dot}
 use Rattle.memory.specs.Memory.{pixelAt}
 use Rattle.generator.specs.Rows.{screen}
@@ -25,7 +25,7 @@ use Rattle.frame.proofs.Gather.{in-fields-same, in-fields-two}
 use Rattle.picture.specs.Span.{bytesOf}
 use Rattle.picture.specs.Machines.{ticked, pictured}
 use Rattle.picture.proofs.Machines.{ticked-generator}
-use Rattle.demands.specs.Demand3.{colours, atField, ticksIn, Begins, Demand3}
+use Rattle.demands.specs.Demand3.{dotsShown, atField, ticksIn, Begins, Demand3}
 use Rattle.demands.proofs.Third.{demand-3-reached}
 use Rattle.demands.proofs.Reached.{reached-sound}
 use Rattle.weave.specs.declared.Weave.{Weave}
@@ -48,7 +48,7 @@ use Rattle.tube.proofs.Reached.{runCalls, run-reached}
 use Rattle.tube.proofs.Colours.{colour, white, only-red, only-blue, same-colour, place-shown, channelOf, three-bytes}
 use Rattle.tube.proofs.Frame.{started-numbers, size-there, field-numbers, started-start, placed, field-placed, placed-inside, begins-there}
 
-bytes-entry : (dots : List Dot) (k channel : ℕ) → k < length dots → channel < 3 → getD (bytesOf dots) (3 * k + channel) 0 ≡ channelOf channel (getD dots k black .colour)
+bytes-entry : (dots : List Dot) (k channel : ℕ) → k < length dots → channel < 3 → getD (bytesOf (coloursOf dots)) (3 * k + channel) 0 ≡ channelOf channel (getD dots k black .colour)
 unfolding bytesOf
 bytes-entry [] k channel h l = absurd (omega arith)
 bytes-entry (dot ∷ rest) zero zero h l = refl
@@ -107,10 +107,10 @@ module _ (n : Bool) (right left : List ℕ) where
   abbrev dots : Bool → List Dot
   dots second = run (fieldDot (started n .regs) second memory) 0 (pixelsSeen (started n .regs) second)
 
-  all-dots : colours m memory (frameTicks (screen (m .regs))) ≡ inFields (started n .regs) dots
+  all-dots : dotsShown m memory (frameTicks (screen (m .regs))) ≡ inFields (started n .regs) dots
   all-dots =
       second-frame .coloured-frame
-      ∙ in-fields-same (m .regs) (λ second. colours (atField m memory second) memory (ticksIn m)) (λ second. run (fieldDot (m .regs) second memory) 0 (pixelsSeen (m .regs) second)) (second-frame .coloured false (λ e. absurd (true≢false (sym e)))) (λ e. second-frame .coloured true (λ _. e))
+      ∙ in-fields-same (m .regs) (λ second. dotsShown (atField m memory second) memory (ticksIn m)) (λ second. run (fieldDot (m .regs) second memory) 0 (pixelsSeen (m .regs) second)) (second-frame .coloured false (λ e. absurd (true≢false (sym e)))) (λ e. second-frame .coloured true (λ _. e))
       ∙ ap (λ (r : Registers). inFields r (λ second. run (fieldDot r second memory) 0 (pixelsSeen r second))) asked-regs
 
   pub sized : sizeOf m ≡ record { width = 640; height = cond n 482 480; half = cond n 272 0 }
@@ -123,11 +123,11 @@ module _ (n : Bool) (right left : List ℕ) where
       subst (λ (k : ℕ). pictured m memory k .refusal ≡ 0) (length-replicate {A = ℕ} (pictureBytes n) 0) (second-frame .pictured-now buffer size-of)
 
   module _ (buffer : List ℕ) (long : length buffer ≡ pictureBytes n) where
-    whole : picture n right left buffer ≡ bytesOf (inFields (started n .regs) dots)
+    whole : picture n right left buffer ≡ bytesOf (coloursOf (inFields (started n .regs) dots))
     unfolding picture
     whole =
         let size-of : length buffer ≡ 3 * framePixels (screen (m .regs)) = long ∙ rw asked-regs (sym (started-numbers n .bytes)) in
-        second-frame .pictured-bytes buffer size-of ∙ ap bytesOf all-dots
+        second-frame .pictured-bytes buffer size-of ∙ ap (λ (l : List Dot). bytesOf (coloursOf l)) all-dots
 
     module _ (second : Bool) (has : second ≡ true → n ≡ true) (i channel : ℕ) (h : i < pixelsSeen (started n .regs) second) (l : channel < 3) where
       in-field : FieldOf (started n .regs) second

@@ -43,7 +43,8 @@ same-equal a b nine e = rw (← e, eq-eqb (length a) 9 nine) (match-self a)
 rebuilt : (word : ℕ) → word < 2 ^ 24 → 65536 * red word + (256 * green word + blue word) ≡ word
 rebuilt word small = omega arith
 
-word-injective : (a b : ℕ) → a < 2 ^ 24 → b < 2 ^ 24 → red a ≡ red b → green a ≡ green b → blue a ≡ blue b → a ≡ b
+-- words below 2^24 with the same three bytes are one
+pub word-injective : (a b : ℕ) → a < 2 ^ 24 → b < 2 ^ 24 → red a ≡ red b → green a ≡ green b → blue a ≡ blue b → a ≡ b
 word-injective a b small small′ r g l = sym (rebuilt a small) ∙ (cc) ∙ rebuilt b small′
 
 three : (a : List ℕ) → length a ≡ 3 → a ≡ getD a 0 0 ∷ getD a 1 0 ∷ getD a 2 0 ∷ []

@@ -27,16 +27,18 @@ running-tick-spec =
     let stand = c .before .before in
     (stand .before .before .pre, (stand .stand-of .ensures, sym (c .before .is-refused .ensures) ∙ c .if1 .left)))
     (λ c κs. tt)
-    (λ c κs. let stand = c .before .before .before .before in (stand .before .before .pre, stand .stand-of .ensures))
-    (λ c κs. c .before .before .before .before .before .stand-of .ensures)
+    (λ c κs. tt)
+    (λ c κs. let stand = c .before .before .before .before .before in (stand .before .before .pre, stand .stand-of .ensures))
+    (λ c κs. c .before .before .before .before .before .before .stand-of .ensures)
     (λ c.
     let next = c .before in
-    let dots = next .before .before in
+    let four = next .before .before in
+    let dots = four .before in
     let go = dots .before in
     let stand = go .before .before in
     let start = stand .before .before in
     tick-0 (r start) (start .args .g) (start .args .memory .now) (start .pre .runs)
     (sym (refuses-bare (r start) (start .args .g) (start .args .memory .now)) ∙ sym (go .before .is-refused .ensures) ∙ go .if1 .left) _ _ _
     (c .signals-of .ensures ∙ signals-bare (r start) (start .args .g) _ ∙ ap (signalsWith (r start) (start .args .g)) (dots .dots-of .ensures))
-    (sums-by (r start) (start .args .memory .now) (start .args .g) _ (stands-whole (r start) (start .args .g) _ (stand .stand-of .ensures)) _ (dots .dots-of .ensures) _ (next .before .tallied .ensures))
+    (sums-by (r start) (start .args .memory .now) (start .args .g) _ (stands-whole (r start) (start .args .g) _ (stand .stand-of .ensures)) _ (dots .dots-of .ensures) _ (four .colours .ensures) _ (next .before .tallied .ensures))
     (next .next-of .ensures ∙ step-bare (r start) (start .args .g) _)))

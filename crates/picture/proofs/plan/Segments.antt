@@ -13,12 +13,11 @@ use Rattle.base.specs.Count.{some, run}
 use Rattle.base.proofs.Run.{run-same}
 use Rattle.control.specs.Control.{forcedBlank, transferring, pixelBits}
 use Rattle.memory.specs.Memory.{endsBeyond}
-use Rattle.signals.specs.declared.Dot.{Dot}
 use Rattle.pixel.specs.declared.Sums.{Sums}
 use Rattle.memory.proofs.Laws.{ends-beyond-later}
 use Rattle.picture.specs.Stretch.{Small}
-use Rattle.picture.specs.Span.{Painted, Through, coveredDot, Covered}
-use Rattle.picture.specs.Plan.{Sized, addressIn, placeIn, dotIn, refusesIn, Cut}
+use Rattle.picture.specs.Span.{Painted, Through, coveredColour, Covered}
+use Rattle.picture.specs.Plan.{Sized, addressIn, placeIn, colourIn, refusesIn, Cut}
 use Rattle.picture.specs.declared.plan.Plan.{Plan}
 use Rattle.picture.specs.declared.stretch.Stretch.{Stretch}
 use Rattle.picture.proofs.span.Spans.{painted-on}
@@ -151,12 +150,12 @@ module _ (p : Plan) (v : ℕ) (s : Stretch) (c : Cut p v s) where
 
   -- one more segment painted
   module _ (through : Through) where
-    abbrev dot : ℕ → Dot
-    dot = coveredDot through s
+    abbrev covered : ℕ → ℕ
+    covered = coveredColour through s
 
-    dot-on : (j : ℕ) → j < s .count → dotIn p through (4 * v + j) ≡ dot (0 + j)
-    unfolding dotIn coveredDot
-    dot-on j l =
+    colour-on : (j : ℕ) → j < s .count → colourIn p through (4 * v + j) ≡ covered (0 + j)
+    unfolding colourIn coveredColour
+    colour-on j l =
         let t : (4 * v + j) / 4 + p .lead ≡ v + p .lead + j / 4 = omega arith in
         let r : (v + p .lead) % p .display + j / 4 < p .display = omega (arith, c .in-line, c .count) in
         let x : 4 * (((4 * v + j) / 4 + p .lead) % p .display) + (4 * v + j) % 4 ≡ s .x + j = rw (t, mod-on (p .display) (v + p .lead) (j / 4) r) (omega (arith, c .column)) in
@@ -164,10 +163,10 @@ module _ (p : Plan) (v : ℕ) (s : Stretch) (c : Cut p v s) where
         rw (zero-add, x, y, place-on j l)
 
     pub painted-rows : {b : List ℕ} {t : Sums} {b′ : List ℕ} {t′ : Sums} {b″ : List ℕ} {t″ : Sums} →
-        Painted b (12 * p .before) t (run (dotIn p through) 0 (4 * v)) b′ t′ → Covered through s b′ t′ b″ t″ → Painted b (12 * p .before) t (run (dotIn p through) 0 (4 * (v + s .count / 4))) b″ t″
+        Painted b (12 * p .before) t (run (colourIn p through) 0 (4 * v)) b′ t′ → Covered through s b′ t′ b″ t″ → Painted b (12 * p .before) t (run (colourIn p through) 0 (4 * (v + s .count / 4))) b″ t″
     painted-rows d e =
-        let f = dotIn p through in
-        let same : run f (0 + 4 * v) (s .count) ≡ run dot 0 (s .count) = rw zero-add (run-same f dot (4 * v) 0 (s .count) dot-on) in
+        let f = colourIn p through in
+        let same : run f (0 + 4 * v) (s .count) ≡ run covered 0 (s .count) = rw zero-add (run-same f covered (4 * v) 0 (s .count) colour-on) in
         rw all (painted-on {k = s .at} f 0 (4 * v) (s .count) d (omega (arith, c .at)) (rw same e))
 
 read-all : (a b c : Bool) → (a && b) ≡ true → c ≡ (a && (b && c))

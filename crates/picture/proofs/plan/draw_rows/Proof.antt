@@ -4,7 +4,7 @@ use mathlib.Core.Path.{_≡_}
 use native.Mathlib.Omega.{arith}
 use Rattle.base.specs.Count.{run}
 use Rattle.picture.specs.Span.{Painted, through}
-use Rattle.picture.specs.Plan.{dotIn}
+use Rattle.picture.specs.Plan.{colourIn}
 use Rattle.picture.proofs.span.Spans.{painted-none, painted-length}
 use Rattle.picture.proofs.plan.Segments.{visible-most, segment-small, painted-rows}
 use Rattle.picture.proofs.plan.draw_rows.Statement.{statement}
@@ -12,7 +12,7 @@ use Rattle.picture.proofs.plan.draw_rows.Tie as tie
 
 abbrev Inv-loop : tie.InvT-loop
 Inv-loop buffer₀ memory p table store colours control position t₀ v₀ buffer t v =
-    (v ≤ p .visible) × Painted buffer₀ (12 * p .before) t₀ (run (dotIn p (through control position table store colours memory)) 0 (4 * v)) buffer t
+    (v ≤ p .visible) × Painted buffer₀ (12 * p .before) t₀ (run (colourIn p (through control position table store colours memory)) 0 (4 * v)) buffer t
 
 abbrev μ-loop : tie.MeasureT-loop
 μ-loop buffer₀ memory p table store colours control position t₀ v₀ buffer t v = p .visible - v

@@ -3,14 +3,14 @@ use Prim.Native.Nat.{_+_, _*_, _-_, _≤_}
 use mathlib.Core.Path.{_≡_}
 use native.Mathlib.Omega.{arith}
 use Rattle.base.specs.Count.{run}
-use Rattle.picture.specs.Span.{Painted, plainDot}
+use Rattle.picture.specs.Span.{Painted, uncoveredColour}
 use Rattle.picture.proofs.span.Spans.{painted-none, painted-turn, painted-length}
 use Rattle.picture.proofs.span.draw_plain.Statement.{statement}
 use Rattle.picture.proofs.span.draw_plain.Tie as tie
 
 abbrev Inv-loop : tie.InvT-loop
 Inv-loop buffer₀ memory first end control table from t₀ i₀ k₀ buffer t i k =
-    (first ≤ i) × (i ≤ end) × (k + 3 * first ≡ k₀ + 3 * i) × Painted buffer₀ k₀ t₀ (run (plainDot control table memory from) first (i - first)) buffer t
+    (first ≤ i) × (i ≤ end) × (k + 3 * first ≡ k₀ + 3 * i) × Painted buffer₀ k₀ t₀ (run (uncoveredColour control table memory from) first (i - first)) buffer t
 
 abbrev μ-loop : tie.MeasureT-loop
 μ-loop buffer₀ memory first end control table from t₀ i₀ k₀ buffer t i k = end - i
@@ -30,7 +30,7 @@ loop-again c =
       omega arith,
       omega arith,
       omega arith,
-      painted-turn (plainDot (a .control) (a .table .now) (a .memory .now) (a .s .from)) (a .first) (now .i) (now .inv .0) (now .inv .3) (now .inv .2)
+      painted-turn (uncoveredColour (a .control) (a .table .now) (a .memory .now) (a .s .from)) (a .first) (now .i) (now .inv .0) (now .inv .3) (now .inv .2)
           (rw (look .look .ensures) at (c .before .before .put .ensures)),
     )
 

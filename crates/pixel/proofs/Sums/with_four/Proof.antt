@@ -40,7 +40,7 @@ with-four-spec =
     (λ c.
     let green = c .before .before .before in
     let both = green .before .before .before .before in
-    let start = both .before .before .before .before .before .before .before .before in
+    let start = both .before .before .before .before in
     rw (c .rolled-sum3 .ensures, c .before .rolled-sum2 .ensures, c .before .before .rolled-sum .ensures)
     (four-by (start .args .self) (start .args .t2) (long start) _ _
     (rw (both .red-and-blue4 .ensures .0, both .before .red-and-blue3 .ensures .0, both .before .before .red-and-blue2 .ensures .0, both .before .before .before .red-and-blue .ensures .0))

@@ -1,0 +1,5 @@
+-- What the nine checksum bytes tell, proved.
+mod Totals
+mod Followed
+pub mod Told
+pub mod Bench
