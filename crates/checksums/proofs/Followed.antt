@@ -5,7 +5,7 @@ use mathlib.Core.List.{List, [], _∷_, _++_, append-nil}
 use mathlib.Core.Logic.{_⊎_, inl, inr}
 use mathlib.Core.Path.{_≡_, refl, sym, ap, _∙_}
 use native.Mathlib.Omega.{arith}
-use borrow.Author.Tests.{eqb-true, eqb-false, lt-ltb, le-ltb, lt-leb, le-leb, eq-eqb, ne-eqb, ltb-true, ltb-false, not-false}
+use borrow.Author.Tests.{eqb-true, eqb-false, lt-ltb, le-ltb, lt-leb, le-leb, ne-eqb, not-false}
 use lib.Dec.{ltb, leb, eqb}
 use lib.ListN.{length, getD}
 use Rattle.base.specs.Count.{run}
@@ -13,7 +13,7 @@ use Rattle.base.proofs.Bools.{below}
 use Rattle.control.specs.Control.{running}
 use Rattle.units.specs.Parameters.{halfTicks, halvesToVDisplay, halvesInField, screenOf}
 use Rattle.screen.specs.Totals.{frameTicks}
-use Rattle.lines.specs.Lines.{period, isVDisplay, opens, nextHalf, nextAt}
+use Rattle.lines.specs.Lines.{opens, nextHalf, nextAt}
 use Rattle.lines.proofs.Moments.{in-vdisplay}
 use Rattle.registers.specs.Map.{placeOf, isControl, isParameter}
 use Rattle.registers.specs.File.{zeros, storeIn, InWidths}
@@ -21,7 +21,6 @@ use Rattle.registers.specs.declared.map.Place.{Place}
 use Rattle.registers.specs.declared.Registers.{Registers}
 use Rattle.registers.proofs.Laws.{control-stored, control-kept, params-kept}
 use Rattle.signals.specs.Signals.{black, coloursOf}
-use Rattle.signals.specs.declared.Signals.{Signals}
 use Rattle.memory.specs.Memory.{pixelShown}
 use Rattle.colour.specs.Colour.{maskedColour}
 use Rattle.cursor.specs.Cursor.{codeOver, over}
@@ -32,7 +31,6 @@ use Rattle.pixel.proofs.Laws.{summed-join, colours-run}
 use Rattle.generator.specs.Rows.{screen, heldAddress}
 use Rattle.generator.specs.Counters.{fresh}
 use Rattle.generator.specs.Tick.{dotOf}
-use Rattle.generator.specs.declared.Generator.{Generator}
 use Rattle.machine.specs.Access.{writeRefusal}
 use Rattle.machine.specs.Calls.{write, read, tick}
 use Rattle.machine.specs.Rules.{beginning, starts, stored, written, answered, advanced}

@@ -1,22 +1,18 @@
 -- ONE BAD PIXEL CAN'T HIDE, of any two machines that the calls give from the beginning. Assumes nothing.
 use Prim.Native.Nat.{ℕ, zero, suc, _+_, _%_, _^_, _<_}
-use mathlib.Core.Bool.{Bool, true, false, not, _||_, true≢false}
-use mathlib.Core.List.{List, [], _∷_}
+use mathlib.Core.Bool.{Bool, true, false, true≢false}
+use mathlib.Core.List.{List, []}
 use mathlib.Core.Path.{_≡_, refl, sym, ap, _∙_}
 use native.Mathlib.Omega.{arith}
 use borrow.Author.Tests.{eqb-true, eqb-false, not-true}
 use lib.Dec.{eqb}
 use lib.ListN.{getD}
-use Rattle.base.specs.Channels.{red, green, blue}
 use Rattle.base.specs.Count.{run}
-use Rattle.control.specs.Control.{running}
 use Rattle.vault.specs.Nine.{nineBytes}
 use Rattle.vault.proofs.Laws.{word-injective, nine-injective}
 use Rattle.registers.specs.Map.{placeOf}
 use Rattle.lines.specs.Lines.{period, isVDisplay}
-use Rattle.signals.specs.Signals.{silent}
 use Rattle.signals.specs.declared.Signals.{Signals}
-use Rattle.pixel.specs.Sums.{none, summed}
 use Rattle.pixel.specs.declared.Sums.{Sums}
 use Rattle.generator.specs.Rows.{fieldAt}
 use Rattle.generator.specs.Counters.{displaying}
@@ -27,7 +23,7 @@ use Rattle.machine.specs.declared.Machine.{Machine}
 use Rattle.machine.proofs.Soundness.{beginning-sound}
 use Rattle.machine.proofs.Theorems.{tick-refused-same}
 use Rattle.demands.specs.Asked.{Asked, afterEvery}
-use Rattle.demands.specs.Demand2.{runs, checksumsRead}
+use Rattle.demands.specs.Demand2.{runs}
 use Rattle.demands.proofs.ByTheRules.{by-the-rules}
 use Rattle.demands.proofs.Reached.{reached-sound}
 use Rattle.demands.proofs.Second.{words-read, demand-2}
