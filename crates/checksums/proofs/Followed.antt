@@ -47,7 +47,7 @@ use Rattle.demands.specs.ByTheRules.{halfNow, atNow, v, out, next, clearedNow, 
 use Rattle.demands.specs.Demand2.{runs}
 use Rattle.demands.proofs.ByTheRules.{runs-now, by-the-rules}
 use Rattle.demands.proofs.Reached.{asked-sound}
-use Rattle.checksums.specs.Field.{Watched, unwatched, falls, lit, begun, seen, withTick, withTicks, started, withCall, withCalls}
+use Rattle.checksums.specs.Field.{Watched, unwatched, isFirst, lit, begun, seen, withTick, withTicks, started, withCall, withCalls}
 
 -- ---- colours of 24 bits
 
@@ -83,7 +83,7 @@ dot-narrow r p position memory place x y =
     over-narrow (r .colours) (codeOver (r .control) position (r .store) x y) (maskedColour (r .palette) (r .mask) (pixelShown (r .control) memory place)) (p .colours)
     (masked-narrow (r .palette) (r .mask) (pixelShown (r .control) memory place))
 
--- ---- where FrameInactive falls, over plain numbers. d: the half lines of a field before VDisplay
+-- ---- where FrameInactive isFirst, over plain numbers. d: the half lines of a field before VDisplay
 
 -- the next tick lies before VDisplay, or is its first
 abbrev waits : ℕ → ℕ → ℕ → Bool
@@ -151,19 +151,19 @@ module _ (w : Watched) (m : Machine) (memory : List ℕ) (z : SoundMachine m) (f
     vdisplay-some : 0 < toVDisplay m
     vdisplay-some = omega (arith, z .accepted on .bounded .vpreequalise .low)
 
-    first-is : falls w (out m memory) ≡ (eqb (halfNow m) (toVDisplay m) && eqb (atNow m) 0)
+    first-is : isFirst w (out m memory) ≡ (eqb (halfNow m) (toVDisplay m) && eqb (atNow m) 0)
     first-is = rw inactive-is (falls-first (toVDisplay m) (halfNow m) (atNow m) vdisplay-some (w .high) (f .level on))
 
     begun-sums : clearedNow m ≡ summed none (begun w (out m memory))
     unfolding opens summed
-    begun-sums = go (falls w (out m memory)) refl
+    begun-sums = go (isFirst w (out m memory)) refl
       where
-        go : (t : Bool) → falls w (out m memory) ≡ t → clearedNow m ≡ summed none (begun w (out m memory))
+        go : (t : Bool) → isFirst w (out m memory) ≡ t → clearedNow m ≡ summed none (begun w (out m memory))
         go true e = simp (sym first-is ∙ e, e)
         go false e = simp (sym first-is ∙ e, e) (f .sums)
 
     begun-narrow : Narrow (begun w (out m memory))
-    begun-narrow = go (falls w (out m memory))
+    begun-narrow = go (isFirst w (out m memory))
       where
         go : (t : Bool) → Narrow (cond t [] (w .colours))
         go true = tt

@@ -1,4 +1,4 @@
--- ONE BAD PIXEL CAN'T HIDE, of any two machines that the calls give from the beginning. Assumes nothing.
+-- What nine bytes tell of two fields, of any two machines that the calls give from the beginning. Assumes nothing.
 use Prim.Native.Nat.{ℕ, zero, suc, _+_, _%_, _^_, _<_}
 use mathlib.Core.Bool.{Bool, true, false, true≢false}
 use mathlib.Core.List.{List, []}
@@ -13,6 +13,7 @@ use Rattle.vault.proofs.Laws.{word-injective, nine-injective}
 use Rattle.registers.specs.Map.{placeOf}
 use Rattle.lines.specs.Lines.{period, isVDisplay}
 use Rattle.signals.specs.declared.Signals.{Signals}
+use Rattle.pixel.specs.Sums.{none, summed}
 use Rattle.pixel.specs.declared.Sums.{Sums}
 use Rattle.generator.specs.Rows.{fieldAt}
 use Rattle.generator.specs.Counters.{displaying}
@@ -30,8 +31,8 @@ use Rattle.demands.proofs.Second.{words-read, demand-2}
 use Rattle.calls.specs.Nine.{nineOf}
 use Rattle.checksums.specs.Field.{unwatched, withCalls, putOut, inFlyback}
 use Rattle.checksums.specs.Apart.{total}
-use Rattle.checksums.specs.Told.{sumIn, nineGiven, Readable, Told}
-use Rattle.checksums.proofs.Totals.{sum-is, sums-from, changed-total, one-byte, rises-apart, all-apart, stuck-apart}
+use Rattle.checksums.specs.Told.{nineGiven, Readable, Told, OneBadPixel}
+use Rattle.checksums.proofs.Totals.{sumIn, sum-is, sums-are, sums-from, changed-total, one-byte, rises-apart, all-apart, stuck-apart}
 use Rattle.checksums.proofs.Followed.{Followed, narrow-at, calls-followed, beginning-followed}
 
 -- ---- the reads are answered
@@ -118,13 +119,15 @@ module _ (calls others : List Asked) (m n : Machine) (reached : m ≡ afterEvery
       ∙ ap (sumIn channel) (sym (followed .sums) ∙ sums-same e ∙ followed-too .sums)
       ∙ sum-is channel ys
 
-  -- ONE BAD PIXEL CAN'T HIDE
-  pub one-bad-pixel : Told calls others m n
-  one-bad-pixel =
+  told : Told calls others m n
+  told =
       record {
         readable = readable m z back;
         readable-too = readable n y too;
-        totals = λ channel l. ap (sumIn channel) (followed .sums) ∙ sum-is channel xs;
+        totals = readable m z back .given ∙ words-read m (reads-answered m z back 0 (omega arith)) ∙ ap checksumWords (followed .sums ∙ sums-are xs);
+        totals-too = readable n y too .given ∙ words-read n (reads-answered n y too 0 (omega arith)) ∙ ap checksumWords (followed-too .sums ∙ sums-are ys);
+        same = λ e.
+            nine-is m z back ∙ ap (λ (s : Sums). nineBytes (checksumWords s)) (followed .sums ∙ ap (summed none) e ∙ sym (followed-too .sums)) ∙ sym (nine-is n y too);
         one-apart = λ o e.
             o .apart
             (word-injective (getD xs (o .place) 0) (getD ys (o .place) 0) (narrow-at xs (o .place) (followed .narrow)) (narrow-at ys (o .place) (followed-too .narrow))
@@ -139,3 +142,7 @@ module _ (calls others : List Asked) (m n : Machine) (reached : m ≡ afterEvery
         falls = λ channel l r e. rises-apart channel ys xs r (sym (totals-same e channel));
         stuck = λ channel line high l k s e. stuck-apart channel line high xs ys k s (totals-same e channel);
       }
+
+-- ONE BAD PIXEL CAN'T HIDE
+pub one-bad-pixel : OneBadPixel
+one-bad-pixel calls others m n reached met back too = told calls others m n reached met back too

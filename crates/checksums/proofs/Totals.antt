@@ -4,7 +4,7 @@ use Prim.Native.Nat.{ℕ, zero, suc, _+_, _-_, _*_, _/_, _%_, _^_, _≤_, _<_}
 use mathlib.Core.Bool.{Bool, true, false, cond}
 use mathlib.Core.List.{List, [], _∷_}
 use mathlib.Core.Logic.{_⊎_, inl, inr}
-use mathlib.Core.Path.{_≡_, refl, sym, ap, _∙_}
+use mathlib.Core.Path.{_≡_, refl, sym, ap, subst, _∙_}
 use native.Mathlib.Nat.{zero-add}
 use native.Mathlib.Omega.{arith}
 use borrow.Author.Tests.{eqb-true, eqb-false, eq-eqb, ne-eqb}
@@ -17,8 +17,11 @@ use Rattle.base.proofs.Bools.{below}
 use Rattle.base.proofs.Lists.{none-there}
 use Rattle.pixel.specs.Sums.{none, added, summed}
 use Rattle.pixel.specs.declared.Sums.{Sums}
-use Rattle.checksums.specs.Told.{sumIn}
 use Rattle.checksums.specs.Apart.{OneApart, ChangedAbout, byteIn, total, risen, Rises, AllRise, wrong, stuckAt, Stuck}
+
+-- a channel's sum
+abbrev pub sumIn : ℕ → Sums → ℕ
+sumIn channel s = getD (s .red ∷ s .green ∷ s .blue ∷ []) channel 0
 
 byte-small : (channel colour : ℕ) → byteIn channel colour < 256
 byte-small zero colour = omega arith
@@ -52,15 +55,25 @@ nothing-in (suc (suc (suc k))) = refl
 pub sum-is : (channel : ℕ) (xs : List ℕ) → sumIn channel (summed none xs) ≡ total channel xs % 2 ^ 24
 sum-is channel xs = sum-total channel none xs (omega (arith, nothing-in channel)) ∙ ap (λ (k : ℕ). (k + total channel xs) % 2 ^ 24) (nothing-in channel) ∙ rw zero-add
 
--- sums whose totals agree are one
+-- sums that agree channel by channel are one
+same-sums : (s t : Sums) → ((channel : ℕ) → sumIn channel s ≡ sumIn channel t) → s ≡ t
+same-sums s t f =
+    ap (λ (k : ℕ). record { red = k; green = s .green; blue = s .blue }) (f 0)
+    ∙ ap (λ (k : ℕ). record { red = t .red; green = k; blue = s .blue }) (f 1)
+    ∙ ap (λ (k : ℕ). record { red = t .red; green = t .green; blue = k }) (f 2)
+
 pub sums-from : (xs ys : List ℕ) → ((channel : ℕ) → total channel xs ≡ total channel ys) → summed none xs ≡ summed none ys
-sums-from xs ys e = go (summed none xs) (summed none ys) (λ k. sum-is k xs ∙ ap (λ (n : ℕ). n % 2 ^ 24) (e k) ∙ sym (sum-is k ys))
+sums-from xs ys e = same-sums (summed none xs) (summed none ys) (λ k. sum-is k xs ∙ ap (λ (n : ℕ). n % 2 ^ 24) (e k) ∙ sym (sum-is k ys))
+
+-- the sums of a list are its totals
+pub sums-are : (xs : List ℕ) → summed none xs ≡ record { red = total 0 xs % 2 ^ 24; green = total 1 xs % 2 ^ 24; blue = total 2 xs % 2 ^ 24 }
+sums-are xs = same-sums (summed none xs) (record { red = total 0 xs % 2 ^ 24; green = total 1 xs % 2 ^ 24; blue = total 2 xs % 2 ^ 24 }) at
   where
-    go : (s t : Sums) → ((channel : ℕ) → sumIn channel s ≡ sumIn channel t) → s ≡ t
-    go s t f =
-        ap (λ (k : ℕ). record { red = k; green = s .green; blue = s .blue }) (f 0)
-        ∙ ap (λ (k : ℕ). record { red = t .red; green = k; blue = s .blue }) (f 1)
-        ∙ ap (λ (k : ℕ). record { red = t .red; green = t .green; blue = k }) (f 2)
+    at : (channel : ℕ) → sumIn channel (summed none xs) ≡ sumIn channel (record { red = total 0 xs % 2 ^ 24; green = total 1 xs % 2 ^ 24; blue = total 2 xs % 2 ^ 24 })
+    at zero = sum-is 0 xs
+    at (suc zero) = sum-is 1 xs
+    at (suc (suc zero)) = sum-is 2 xs
+    at (suc (suc (suc k))) = refl
 
 module _ (channel : ℕ) where
   -- lists that agree place by place have one total
@@ -243,6 +256,16 @@ set-apart xs i y l n =
       apart = λ e. n (e ∙ getD-set-same xs i y 0 l);
       alike = λ j f. sym (getD-set-other xs i j y 0 f);
     }
+
+-- a pixel's byte raised, and no other touched
+pub set-up : (xs : List ℕ) (i y : ℕ) → i < length xs → (channel : ℕ) → byteIn channel (getD xs i 0) ≤ byteIn channel y → (j : ℕ) → byteIn channel (getD xs j 0) ≤ byteIn channel (getD (set xs i y) j 0)
+set-up xs i y l channel h j = go (eqb j i) refl
+  where
+    go : (b : Bool) → eqb j i ≡ b → byteIn channel (getD xs j 0) ≤ byteIn channel (getD (set xs i y) j 0)
+    go true e =
+        subst (λ (k : ℕ). byteIn channel (getD xs k 0) ≤ byteIn channel (getD (set xs i y) k 0)) (sym (eqb-true j i e))
+        (subst (λ (x : ℕ). byteIn channel (getD xs i 0) ≤ byteIn channel x) (sym (getD-set-same xs i y 0 l)) h)
+    go false e = subst (λ (x : ℕ). byteIn channel (getD xs j 0) ≤ byteIn channel x) (sym (getD-set-other xs i j y 0 (eqb-false j i e))) (omega arith)
 
 pub set-about : (xs : List ℕ) (i j : ℕ) → i < length xs → j < length xs → (j ≡ i → ⊥) → ChangedAbout xs (set (set xs i (getD xs j 0)) j (getD xs i 0))
 set-about xs i j l k n =

@@ -47,7 +47,7 @@ pub record Rises (channel : ℕ) (xs ys : List ℕ) : Type 0 where
   pub somewhere : 0 < risen channel xs ys
   pub less : risen channel xs ys < 2 ^ 24
 
--- every byte of all three stays or rises, none by 2^24 or more in all, and one somewhere by something
+-- every byte of all three channels stays or rises, no channel by 2^24 or more in all, and one somewhere by something
 pub record AllRise (xs ys : List ℕ) : Type 0 where
   pub as-many : length xs ≡ length ys
   pub up : (channel i : ℕ) → channel < 3 → byteIn channel (getD xs i 0) ≤ byteIn channel (getD ys i 0)

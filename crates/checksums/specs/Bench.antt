@@ -13,7 +13,7 @@ use Rattle.demands.specs.Asked.{Asked, of, picture, afterEvery}
 use Rattle.calls.specs.Nine.{nineOf}
 use Rattle.calls.specs.declared.Checksums.{Checksums}
 use Rattle.checksums.specs.Field.{putOut, inFlyback}
-use Rattle.checksums.specs.Apart.{OneApart, ChangedAbout, Stuck}
+use Rattle.checksums.specs.Apart.{OneApart, ChangedAbout, AllRise, Stuck}
 use Rattle.checksums.specs.Told.{Told}
 
 -- the screen at 8 bits, started; palette entry 5 is document 01's, 6 has one more of red, 7 one less, and the mask lets all through
@@ -23,7 +23,7 @@ ready =
     (writesFrom 0x021 benchParameters
     ++ (write 0x040 0xFFFFFF ∷ write 0x105 0x102030 ∷ write 0x106 0x112030 ∷ write 0x107 0x0F2030 ∷ write 0x060 0xB00001 ∷ []))
 
--- one frame ticked with a picture memory: its field is put out, and its flyback has begun
+-- one frame ticked with a picture memory: its field is put out, and the flyback after it has begun
 unfoldable pub field : List ℕ → List Asked
 field memory = ready ++ replicate 63 (of (tick memory))
 
@@ -56,7 +56,7 @@ unfoldable pub drawn : List Asked
 drawn = ready ++ (picture fives (replicate 48 0) ∷ [])
 
 unfoldable pub rewritten : List Asked
-rewritten = ready ++ (replicate 50 (of (tick fives)) ++ (of (write 0x105 0x112030) ∷ replicate 13 (of (tick fives))))
+rewritten = ready ++ (replicate 49 (of (tick fives)) ++ (of (write 0x105 0x112030) ∷ replicate 14 (of (tick fives))))
 
 -- a field that is put out so, and read so
 pub record Reads (calls : List Asked) (colours : List ℕ) (nine : Checksums) : Type 0 where
@@ -69,6 +69,7 @@ pub record Bench : Type 0 where
   -- one byte of memory is another: one pixel is, and the nine bytes differ
   pub one-wrong : Reads (field oneWrong) (set (replicate 16 0x102030) 2 0x112030) (words 0x010000 0x010203 0x000000)
   pub one-apart : OneApart (putOut (field fives)) (putOut (field oneWrong))
+  pub all-rise : AllRise (putOut (field fives)) (putOut (field oneWrong))
   pub one-told : Told (field fives) (field oneWrong) (after (field fives)) (after (field oneWrong))
   -- two bytes have changed about: so have two pixels, and the nine bytes are equal
   pub elsewhere-reads : Reads (field elsewhere) (set (replicate 16 0x102030) 11 0x112030) (words 0x010000 0x010203 0x000000)
@@ -79,6 +80,7 @@ pub record Bench : Type 0 where
   -- a stuck line is seen
   pub sixes-reads : Reads (field sixes) (replicate 16 0x112030) (words 0x100000 0x010203 0x000000)
   pub stuck : Stuck 0 0 true (putOut (field fives)) (putOut (field sixes))
+  pub stuck-told : Told (field fives) (field sixes) (after (field fives)) (after (field sixes))
   -- a picture is its ticks; and a write between them changes what goes out after it
   pub drawn-reads : Reads drawn (replicate 16 0x102030) (words 0x000000 0x010203 0x000000)
   pub rewritten-reads : Reads rewritten (replicate 8 0x102030 ++ replicate 8 0x112030) (words 0x080000 0x010203 0x000000)

@@ -1,5 +1,5 @@
--- What a field puts out (02, Q-1, and Q-4: a field in place of a frame), as one knows it who sees the calls and their answers and nothing else.
--- m: the machine before a call. Assumes nothing.
+-- What a field puts out (02, Q-1, and Q-4: a field in place of a frame), as one knows it who sees the calls and their answers; a whole picture counts
+-- as the ticks of its frame, which it is. m: the machine before a call. Assumes nothing.
 use Prim.Native.Nat.{ℕ, zero, suc}
 use mathlib.Core.Bool.{Bool, true, not, cond, _&&_, _||_}
 use mathlib.Core.List.{List, [], _∷_, _++_}
@@ -17,17 +17,18 @@ use Rattle.picture.specs.Machines.{ticked, pictured}
 use Rattle.demands.specs.Asked.{Asked, of, lent, picture, afterAsked}
 use Rattle.demands.specs.Demand2.{runs}
 
--- what has been seen: FrameInactive at the last tick, and the colours put out since the field began
+-- what has been seen: FrameInactive at the last tick since the start, and the colours put out since the field's first VDisplay tick
 pub record Watched : Type 0 where
   pub high : Bool
   pub colours : List ℕ
 
+-- before any tick
 abbrev pub unwatched : Watched
 unwatched = record { high = true; colours = [] }
 
--- a field's first VDisplay tick: FrameInactive, which is high in all but VDisplay, falls
-abbrev pub falls : Watched → Signals → Bool
-falls w s = w .high && not (s .inactive)
+-- a field's first VDisplay tick: FrameInactive, which is high in all but VDisplay, has fallen
+abbrev pub isFirst : Watched → Signals → Bool
+isFirst w s = w .high && not (s .inactive)
 
 -- the colours of a tick that is not blank
 abbrev pub lit : Signals → List ℕ
@@ -35,16 +36,17 @@ lit s = cond (s .blank) [] (coloursOf (s .dots))
 
 -- what the field had put out before a tick: nothing, where the tick is its first
 abbrev pub begun : Watched → Signals → List ℕ
-begun w s = cond (falls w s) [] (w .colours)
+begun w s = cond (isFirst w s) [] (w .colours)
 
--- a tick seen; a refused one puts out nothing
+-- a tick that is answered
 abbrev pub seen : Watched → Signals → Watched
 seen w s = record { high = s .inactive; colours = begun w s ++ lit s }
 
+-- a tick; a refused one puts out nothing
 unfoldable pub withTick : Watched → ℕ → Signals → Watched
 withTick w refusal s = cond (eqb refusal 0) (seen w s) w
 
--- n of them, one after another, with one picture memory
+-- n ticks, one after another, with one picture memory
 unfoldable pub withTicks : Watched → Machine → List ℕ → ℕ → Watched
 withTicks w m memory zero = w
 withTicks w m memory (suc n) =
@@ -67,11 +69,11 @@ abbrev pub withCalls : Watched → Machine → List Asked → Watched
 withCalls w m [] = w
 withCalls w m (call ∷ rest) = withCalls (withCall w m call) (afterAsked m call) rest
 
--- WHAT THE FIELD AT HAND HAS PUT OUT after these calls: the colours of all pixels of its ticks that are not blank, in tick order, from its
--- first VDisplay tick on
+-- WHAT THE LAST FIELD HAS PUT OUT after these calls: the colours of all pixels of its ticks that are not blank, in tick order, from its first
+-- VDisplay tick on
 abbrev pub putOut : List Asked → List ℕ
 putOut calls = withCalls unwatched beginning calls .colours
 
--- flyback has begun, and the next field has not: it is stopped, or has FrameInactive high at its next tick
+-- flyback has begun: FrameInactive is high at the next tick; or it is stopped, where the checksums can be read as well
 abbrev pub inFlyback : Machine → Bool
 inFlyback m = not (runs m) || advanced m [] .signals .inactive

@@ -1,24 +1,28 @@
--- ONE BAD PIXEL CAN'T HIDE (02, Q-1). Two machines that the calls give from the beginning, both in flyback, whatever the two fields were ticked
--- with and whatever was written between their ticks: what their nine bytes tell of the pixels put out. m, n: the machines after the calls.
--- Assumes nothing.
+-- What nine bytes tell of the pixels put out (02, Q-1): of any two fields, whatever they were ticked with and whatever was written between their
+-- ticks. m, n: the machines after the calls. Assumes nothing.
 use Prim.Native.Nat.{ℕ, _+_, _%_, _^_, _<_}
-use mathlib.Core.Bool.{Bool}
-use mathlib.Core.List.{List, [], _∷_}
+use mathlib.Core.Bool.{Bool, true}
+use mathlib.Core.List.{List}
 use mathlib.Core.Path.{_≡_}
-use lib.ListN.{getD}
 use Rattle.vault.specs.Nine.{nineBytes}
 use Rattle.pixel.specs.declared.Sums.{Sums}
-use Rattle.machine.specs.Rules.{answered}
+use Rattle.machine.specs.Rules.{beginning, answered}
+use Rattle.machine.specs.Words.{checksumWords}
 use Rattle.machine.specs.declared.Machine.{Machine}
-use Rattle.demands.specs.Asked.{Asked}
+use Rattle.demands.specs.Asked.{Asked, afterEvery}
 use Rattle.demands.specs.Demand2.{checksumsRead}
 use Rattle.calls.specs.Nine.{nineOf}
-use Rattle.checksums.specs.Field.{putOut}
+use Rattle.checksums.specs.Field.{putOut, inFlyback}
 use Rattle.checksums.specs.Apart.{OneApart, ChangedAbout, total, Rises, AllRise, Stuck}
 
--- a channel's checksum
-abbrev pub sumIn : ℕ → Sums → ℕ
-sumIn channel s = getD (s .red ∷ s .green ∷ s .blue ∷ []) channel 0
+-- the totals of the bytes that the last field has put out, modulo 2^24
+abbrev pub totalsOf : List Asked → Sums
+totalsOf calls =
+    record {
+      red = total 0 (putOut calls) % 2 ^ 24;
+      green = total 1 (putOut calls) % 2 ^ 24;
+      blue = total 2 (putOut calls) % 2 ^ 24;
+    }
 
 -- the nine bytes that `nine` gives
 abbrev pub nineGiven : Machine → List ℕ
@@ -33,8 +37,11 @@ pub record Readable (m : Machine) : Type 0 where
 pub record Told (calls others : List Asked) (m n : Machine) : Type 0 where
   pub readable : Readable m
   pub readable-too : Readable n
-  -- each checksum is the total of its channel's bytes that the field put out, modulo 2^24
-  pub totals : (channel : ℕ) → channel < 3 → sumIn channel (m .generator .sums) ≡ total channel (putOut calls) % 2 ^ 24
+  -- the words read are those of the totals of what was put out
+  pub totals : nineOf m .words ≡ checksumWords (totalsOf calls)
+  pub totals-too : nineOf n .words ≡ checksumWords (totalsOf others)
+  -- the same pixels: the nine bytes are equal
+  pub same : putOut calls ≡ putOut others → nineGiven m ≡ nineGiven n
   -- one pixel is another: the nine bytes differ
   pub one-apart : OneApart (putOut calls) (putOut others) → nineGiven m ≡ nineGiven n → ⊥
   -- two pixels have changed about: the nine bytes are equal
@@ -47,3 +54,9 @@ pub record Told (calls others : List Asked) (m n : Machine) : Type 0 where
   pub falls : (channel : ℕ) → channel < 3 → Rises channel (putOut others) (putOut calls) → nineGiven m ≡ nineGiven n → ⊥
   -- so a colour line that is stuck is seen, while fewer than 131,072 pixels are wrong by it
   pub stuck : (channel line : ℕ) (high : Bool) → channel < 3 → line < 8 → Stuck channel line high (putOut calls) (putOut others) → nineGiven m ≡ nineGiven n → ⊥
+
+-- ONE BAD PIXEL CAN'T HIDE, of any two machines that the calls give from the beginning and that are in flyback
+abbrev pub OneBadPixel : Type 0
+OneBadPixel =
+    (calls others : List Asked) (m n : Machine) → m ≡ afterEvery beginning calls → n ≡ afterEvery beginning others →
+    inFlyback m ≡ true → inFlyback n ≡ true → Told calls others m n
