@@ -48,6 +48,7 @@ use Rattle.tube.proofs.Reached.{runCalls, run-reached}
 use Rattle.tube.proofs.Colours.{colour, white, only-red, only-blue, same-colour, place-shown, channelOf, three-bytes}
 use Rattle.tube.proofs.Frame.{started-numbers, size-there, field-numbers, started-start, placed, field-placed, placed-inside, begins-there}
 
+-- a byte of a buffer is one of its pixel's three
 bytes-entry : (dots : List Dot) (k channel : ℕ) → k < length dots → channel < 3 → getD (bytesOf (coloursOf dots)) (3 * k + channel) 0 ≡ channelOf channel (getD dots k black .colour)
 unfolding bytesOf
 bytes-entry [] k channel h l = absurd (omega arith)
