@@ -7,7 +7,7 @@ use native.Mathlib.Omega.{arith}
 use Rattle.base.proofs.Bools.{neither-holds}
 use Rattle.marks.specs.Near.{near}
 use Rattle.marks.proofs.ear.Near.{far-hidden}
-use Rattle.audiogram.specs.Form.{form}
+use Rattle.form.specs.Form.{form}
 use Rattle.audiogram.specs.Entry.{paperEntry, formEntry, entryAt}
 use Rattle.audiogram.specs.Places.{holds, pixelOf}
 use Rattle.audiogram.specs.Picture.{packed, fourFrom, entryOf, byteAt}

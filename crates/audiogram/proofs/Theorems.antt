@@ -16,7 +16,7 @@ use Rattle.memory.specs.Memory.{pixelAt}
 use Rattle.memory.proofs.Bytes.{pixel-inside}
 use Rattle.marks.specs.Marks.{mark}
 use Rattle.marks.specs.Ear.{measured, columns, pointOf, lastBefore, coveredAt, shows}
-use Rattle.audiogram.specs.Form.{form}
+use Rattle.form.specs.Form.{form}
 use Rattle.audiogram.specs.Entry.{paperEntry, rightEntry, leftEntry, formEntry, entryAt}
 use Rattle.audiogram.specs.Places.{placeOf, holds, pixelOf}
 use Rattle.audiogram.specs.Picture.{size, entryOf, byteAt, drawn}

@@ -3,7 +3,7 @@ use Prim.Native.Nat.{ℕ}
 use mathlib.Core.Bool.{true, false, cond}
 use mathlib.Core.List.{List}
 use Rattle.marks.specs.Ear.{shows}
-use Rattle.audiogram.specs.Form.{form}
+use Rattle.form.specs.Form.{form}
 use Rattle.marks.specs.declared.points.Point.{Point}
 
 -- the palette entries: paper, right ear, left ear, form

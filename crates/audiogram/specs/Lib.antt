@@ -1,5 +1,4 @@
--- An audiogram's picture: its form, each pixel's palette entry, and where the pixels lie.
+-- An audiogram's picture: each pixel's palette entry, and where the pixels lie.
 pub mod Picture
 pub mod Places
 pub mod Entry
-pub mod Form

@@ -2,9 +2,8 @@
 ghost use mathlib.Core.Path.{_≡_};
 ghost use mathlib.Core.Bool.{cond};
 ghost use Prim.Native.Nat.{_≤_};
-ghost use Rattle.audiogram.specs.Form.{form};
+ghost use Rattle.form.specs.Form.{form};
 ghost use Rattle.audiogram.specs.Entry.{entryAt, formEntry, paperEntry};
-use crate::form;
 use marks::ear;
 use marks::points::Point;
 

@@ -1,7 +1,6 @@
 // A clinical audiogram in picture memory: 640 by 480 pixels of 2 bits, four to a byte, least significant bits first; for one field, or for two
 // that show its lines in turn.
 mod entry;
-mod form;
 
 ghost use mathlib.Core.Path.{_≡_};
 ghost use Prim.Native.Nat.{_*_, _<_, _≤_, min};

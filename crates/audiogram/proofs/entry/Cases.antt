@@ -4,7 +4,7 @@ use mathlib.Core.Path.{_≡_}
 use mathlib.Core.Bool.{Bool, true, false}
 use mathlib.Core.List.{List}
 use Rattle.marks.specs.Ear.{shows}
-use Rattle.audiogram.specs.Form.{form}
+use Rattle.form.specs.Form.{form}
 use Rattle.audiogram.specs.Entry.{entryAt}
 use Rattle.marks.specs.declared.points.Point.{Point}
 

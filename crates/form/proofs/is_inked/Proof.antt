@@ -1,8 +1,8 @@
--- `audiogram::form::is_inked` meets its contract. Assumes nothing.
+-- `form::is_inked` meets its contract. Assumes nothing.
 use native.Mathlib.Omega.{arith}
-use Rattle.audiogram.proofs.form.Cases.{inked-made}
-use Rattle.audiogram.proofs.form.is_inked.Statement.{statement}
-use Rattle.audiogram.proofs.form.is_inked.Tie as tie
+use Rattle.form.proofs.Cases.{inked-made}
+use Rattle.form.proofs.is_inked.Statement.{statement}
+use Rattle.form.proofs.is_inked.Tie as tie
 
 pub is-inked-spec : {M : Type 1} → statement M
 is-inked-spec =

@@ -1,9 +1,9 @@
--- `audiogram::form::is_label` meets its contract. Assumes nothing.
+-- `form::is_label` meets its contract. Assumes nothing.
 use native.Mathlib.Omega.{arith}
-use Rattle.audiogram.proofs.form.Cases.{label-made}
+use Rattle.form.proofs.Cases.{label-made}
 use borrow.Author.Needs.{needs}
-use Rattle.audiogram.proofs.form.is_label.Statement.{statement}
-use Rattle.audiogram.proofs.form.is_label.Tie as tie
+use Rattle.form.proofs.is_label.Statement.{statement}
+use Rattle.form.proofs.is_label.Tie as tie
 
 pub is-label-spec : {M : Type 1} → statement M
 is-label-spec =

@@ -3,7 +3,7 @@ ghost use mathlib.Core.Path.{_≡_};
 ghost use mathlib.Core.Bool.{false, _&&_};
 ghost use Prim.Native.Nat.{ℕ, _<_, _≤_};
 ghost use lib.ListN.{getD};
-ghost use Rattle.audiogram.specs.Form.{grid, font, inked, dot, textAt, labelled, form};
+ghost use Rattle.form.specs.Form.{grid, font, inked, dot, textAt, labelled, form};
 use marks::points::Point;
 use marks::points::less;
 use marks::points::pick;

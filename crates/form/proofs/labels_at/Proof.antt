@@ -1,8 +1,8 @@
--- `audiogram::form::labels_at` meets its contract: each part of the picture by its test over the table. Assumes nothing.
+-- `form::labels_at` meets its contract: each part of the picture by its test over the table. Assumes nothing.
 use native.Mathlib.Omega.{arith}
-use Rattle.audiogram.proofs.form.Missed.{part}
-use Rattle.audiogram.proofs.form.labels_at.Statement.{statement}
-use Rattle.audiogram.proofs.form.labels_at.Tie as tie
+use Rattle.form.proofs.Missed.{part}
+use Rattle.form.proofs.labels_at.Statement.{statement}
+use Rattle.form.proofs.labels_at.Tie as tie
 
 pub labels-at-spec : {M : Type 1} → statement M
 labels-at-spec =

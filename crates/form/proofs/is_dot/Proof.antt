@@ -1,8 +1,8 @@
--- `audiogram::form::is_dot` meets its contract. Assumes nothing.
+-- `form::is_dot` meets its contract. Assumes nothing.
 use native.Mathlib.Omega.{arith}
-use Rattle.audiogram.proofs.form.Cases.{dot-made}
-use Rattle.audiogram.proofs.form.is_dot.Statement.{statement}
-use Rattle.audiogram.proofs.form.is_dot.Tie as tie
+use Rattle.form.proofs.Cases.{dot-made}
+use Rattle.form.proofs.is_dot.Statement.{statement}
+use Rattle.form.proofs.is_dot.Tie as tie
 
 pub is-dot-spec : {M : Type 1} → statement M
 is-dot-spec =

@@ -1,14 +1,14 @@
--- `audiogram::form::shows` meets its contract: one label more at each turn. Assumes nothing.
+-- `form::shows` meets its contract: one label more at each turn. Assumes nothing.
 use Prim.Native.Nat.{_≤_, _-_}
 use mathlib.Core.Path.{_≡_}
 use mathlib.Core.Bool.{_||_}
 use native.Mathlib.Omega.{arith}
 use Rattle.base.specs.Count.{some}
-use Rattle.audiogram.specs.Form.{grid, labelled}
-use Rattle.audiogram.proofs.form.Cases.{form-none, form-more, form-whole}
+use Rattle.form.specs.Form.{grid, labelled}
+use Rattle.form.proofs.Cases.{form-none, form-more, form-whole}
 use borrow.Author.Needs.{needs}
-use Rattle.audiogram.proofs.form.shows.Statement.{statement}
-use Rattle.audiogram.proofs.form.shows.Tie as tie
+use Rattle.form.proofs.shows.Statement.{statement}
+use Rattle.form.proofs.shows.Tie as tie
 
 abbrev Inv-loop : tie.InvT-loop
 Inv-loop p asked covered₀ k₀ covered k = (k ≤ 29) × (covered ≡ (grid p || some (λ j. labelled p j) k))

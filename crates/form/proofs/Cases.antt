@@ -10,7 +10,7 @@ use lib.ListN.{getD}
 use Rattle.base.specs.Count.{some}
 use Rattle.base.proofs.Bools.{below}
 use Rattle.base.proofs.Some.{some-none}
-use Rattle.audiogram.specs.Form.{grid, font, inked, lefts, tops, texts, dot, textAt, labelled, form}
+use Rattle.form.specs.Form.{grid, font, inked, lefts, tops, texts, dot, textAt, labelled, form}
 use Rattle.marks.specs.declared.points.Point.{Point}
 
 -- numbers that do not pass decide nothing

@@ -1,12 +1,12 @@
--- `audiogram::form::sign` meets its contract: past the last sign there is none. Assumes nothing.
+-- `form::sign` meets its contract: past the last sign there is none. Assumes nothing.
 use Prim.Native.Nat.{_≤_}
 use mathlib.Core.Path.{sym}
 use native.Mathlib.Omega.{arith}
 use lib.ListN.{List·getD-eq-default}
-use Rattle.audiogram.specs.Form.{font}
+use Rattle.form.specs.Form.{font}
 use borrow.Author.Needs.{needs}
-use Rattle.audiogram.proofs.form.sign.Statement.{statement}
-use Rattle.audiogram.proofs.form.sign.Tie as tie
+use Rattle.form.proofs.sign.Statement.{statement}
+use Rattle.form.proofs.sign.Tie as tie
 
 pub sign-spec : {M : Type 1} → statement M
 sign-spec =

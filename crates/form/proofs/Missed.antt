@@ -12,7 +12,7 @@ use lib.ListN.{getD}
 use mir.Facts.{or-yes}
 use Rattle.base.proofs.Bools.{both-hold}
 use Rattle.base.proofs.Table.{passes, entry}
-use Rattle.audiogram.specs.Form.{texts, lefts, tops, inked, dot, scaled, textAt, labelled}
+use Rattle.form.specs.Form.{texts, lefts, tops, inked, dot, scaled, textAt, labelled}
 use Rattle.marks.specs.declared.points.Point.{Point}
 
 -- a blank sign has no dot

@@ -1,0 +1,2 @@
+-- The form that a chart is drawn on.
+pub mod Form
