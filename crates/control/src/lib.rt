@@ -22,59 +22,59 @@ const OFFSET_POWERS: [u32; 4] = [0, 0, 8, 9];
 pub fn is_running(control: u32) -> bool
     ensures bit { λ r. ⌜ r ≡ running control ⌝ }
 {
-    control / 0x1 % 2 == 1
+    (control >> 0) & 1 == 1
 }
 
 // Bit 1: the screen is interlaced.
 pub fn is_interlaced(control: u32) -> bool
     ensures bit { λ r. ⌜ r ≡ interlaced control ⌝ }
 {
-    control / 0x2 % 2 == 1
+    (control >> 1) & 1 == 1
 }
 
 // Bit 4: plain flyback sync; tesselated where it is 0.
 pub fn is_plain(control: u32) -> bool
     ensures bit { λ r. ⌜ r ≡ plain control ⌝ }
 {
-    control / 0x10 % 2 == 1
+    (control >> 4) & 1 == 1
 }
 
 // Bit 10: blanking is forced.
 pub fn is_forced_blank(control: u32) -> bool
     ensures bit { λ r. ⌜ r ≡ forcedBlank control ⌝ }
 {
-    control / 0x400 % 2 == 1
+    (control >> 10) & 1 == 1
 }
 
 // Bit 14 switches row transfers off.
 pub fn is_transferring(control: u32) -> bool
     ensures bit { λ r. ⌜ r ≡ transferring control ⌝ }
 {
-    !(control / 0x4000 % 2 == 1)
+    !((control >> 14) & 1 == 1)
 }
 
 // Bit 23 switches the cursor off.
 pub fn is_cursor_on(control: u32) -> bool
     ensures bit { λ r. ⌜ r ≡ cursorOn control ⌝ }
 {
-    !(control / 0x800000 % 2 == 1)
+    !((control >> 23) & 1 == 1)
 }
 
 // Refusal 4: a mode that the build does not have.
 pub fn is_outside(control: u32) -> bool
     ensures refusal { λ r. ⌜ r ≡ outside control ⌝ }
 {
-    (control / 0x8 % 2 != 0)
-        | (control / 0x800 % 2 != 0)
-        | (control / 0x8000 % 0x20 != 0)
-        | (control / 0x400000 % 2 != 0)
+    ((control >> 3) & 1 != 0)
+        | ((control >> 11) & 1 != 0)
+        | ((control >> 15) & 0x1f != 0)
+        | ((control >> 22) & 1 != 0)
 }
 
 // 0, 1, 2 and 3 for 1, 2, 4 and 8 bits a pixel.
 pub fn depth_code(control: u32) -> u32
     ensures code { λ r. ⌜ r ≡ depth control ⌝ }
 {
-    control / 0x100000 % 4
+    (control >> 20) & 3
 }
 
 // The shift period, in screen units.
@@ -89,7 +89,7 @@ pub fn shift_period(control: u32) -> u32
 fn increment_code(control: u32) -> u32
     ensures code { λ r. ⌜ r ≡ incrementCode control ⌝ }
 {
-    control / 0x1000 % 4
+    (control >> 12) & 3
 }
 
 // The address increment.

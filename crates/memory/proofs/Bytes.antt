@@ -1,15 +1,16 @@
 -- A pixel stands inside one byte of the memory: one proof for every depth. Assumes nothing.
-use Prim.Native.Nat.{ℕ, zero, suc, _+_, _*_, _/_, _%_, _^_, _≤_, _<_}
+use Prim.Native.Nat.{ℕ, zero, suc, _+_, _-_, _*_, _/_, _%_, _^_, _≤_, _<_}
 use mathlib.Core.Path.{_≡_, refl, sym, ap, _∙_}
 use mathlib.Core.Bool.{Bool, true, false}
 use mathlib.Core.List.{List}
-use native.Mathlib.Nat.{mod-one, mod-lt, div-add-mod, add-mul, zero-mul, one-mul, suc-mul, mul-comm, mul-right-comm, mul-le-mul-right, le-mul-of-pos-right}
+use native.Mathlib.Nat.{mod-one, mod-lt, div-add-mod, add-mul, zero-mul, one-mul, suc-mul, mul-comm, mul-right-comm, mul-div-cancel, mul-le-mul-right, le-mul-of-pos-right}
 use native.Mathlib.Numerals.{add-one}
 use native.Mathlib.Omega.{arith}
 use borrow.Author.Tests.{lt-ltb, le-ltb, leb-true, leb-false}
+use lib.Bits.{bitAnd, and-mask}
 use lib.Dec.{leb}
 use lib.ListN.{length, getD}
-use lib.Pow.{shr-shr, mod-pow-add}
+use lib.Pow.{pow-pos, pow-add, shr-shr, mod-pow-add}
 use Rattle.memory.specs.Memory.{bitAt, bitsAt, pixelAt, pixelIn, endsBeyond}
 
 module _ (memory : List ℕ) (k : ℕ) where
@@ -38,6 +39,23 @@ pub whole-byte : (byte place : ℕ) → byte < 256 → byte ≡ pixelIn 8 byte p
 whole-byte byte place small =
     let first : place * 8 % 8 ≡ 0 = omega arith in
     rw first (omega arith)
+
+-- at a depth of 2^depth bits, 2^(3 - depth) pixels fill a byte, and no other number does
+module _ (depth : ℕ) (d : depth < 4) where
+  pub filled : 2 ^ (3 - depth) * 2 ^ depth ≡ 8
+  filled =
+      let whole : 3 - depth + depth ≡ 3 = omega arith in
+      rw (← pow-add, whole)
+
+  module _ (per : ℕ) (whole : per * 2 ^ depth ≡ 8) where
+    power : per ≡ 2 ^ (3 - depth)
+    power =
+        sym (mul-div-cancel per (pow-pos depth)) ∙ ap (λ (n : ℕ). n / 2 ^ depth) (whole ∙ sym filled) ∙ mul-div-cancel (2 ^ (3 - depth)) (pow-pos depth)
+
+    -- so a pixel's number in its byte is a mask of its place
+    pub number-masked : (place : ℕ) → bitAnd place (per - 1) ≡ place % per
+    number-masked place =
+        ap (λ (n : ℕ). bitAnd place (n - 1)) power ∙ and-mask place (3 - depth) ∙ ap (λ (n : ℕ). place % n) (sym power)
 
 factor-positive : (a b : ℕ) → a * b ≡ 8 → 0 < a
 factor-positive zero b e = absurd (omega (arith, zero-mul b))

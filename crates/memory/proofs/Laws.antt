@@ -8,10 +8,10 @@ use native.Mathlib.Omega.{arith}
 use borrow.Author.Tests.{lt-ltb, le-ltb, ltb-true, ltb-false, leb-false}
 use lib.Dec.{leb}
 use lib.ListN.{length, getD}
-use lib.Pow.{pow-add, shl-exact}
+use lib.Pow.{shl-exact}
 use Rattle.control.specs.Control.{depth, pixelBits, transferring}
 use Rattle.memory.specs.Memory.{byteOf, pixelIn, endsBeyond, pixelShown}
-use Rattle.memory.proofs.Bytes.{whole-byte, byte-by, shift-by, pixel-inside, byte-beyond}
+use Rattle.memory.proofs.Bytes.{filled, whole-byte, byte-by, shift-by, pixel-inside, byte-beyond}
 
 -- a one shifted left is a power of two
 pub one-bit : (n : ℕ) → n < 64 → 1 * 2 ^ n % 2 ^ 64 ≡ 2 ^ n
@@ -35,9 +35,7 @@ module _ (control : ℕ) (memory : List ℕ) (place : ℕ) where
   per = 2 ^ (3 - depth control)
 
   fills : per * pixelBits control ≡ 8
-  fills =
-      let whole : 3 - depth control + depth control ≡ 3 = omega arith in
-      rw (← pow-add, whole)
+  fills = filled (depth control) (omega arith)
 
   -- the pixel shown is the one in its byte
   pub shown-in : transferring control ≡ true → pixelIn (pixelBits control) (getD memory (byteOf (pixelBits control) place) 0) place ≡ pixelShown control memory place

@@ -1,10 +1,11 @@
-// Picture memory (01, "Rows and pixels"): a pixel out of packed bytes, at any depth, and where the memory ends.
+// Picture memory (01, "Rows and pixels"; 02, Q-3): a pixel out of packed bytes, at any depth, and where the memory ends. Shifts and masks
+// alone, for processors with no multiply.
 ghost use mathlib.Core.Path.{_≡_};
 ghost use Prim.Native.Nat.{_*_, _/_, _%_, _^_, _<_};
 ghost use Rattle.control.specs.Control.{pixelBits};
 ghost use Rattle.memory.specs.Memory.{byteOf, pixelIn, endsBeyond, pixelShown};
 
-// Pixels in a byte: a power of two, so that the compiler divides by a shift.
+// Pixels in a byte.
 fn per_byte(control: u32) -> u64
     ensures whole { λ r. ⌜ r * pixelBits control ≡ 8 ⌝ }
 {
@@ -18,16 +19,18 @@ fn picked(byte: u8, number: u32, depth: u32) -> u8
     ensures pixel { λ r. ⌜ r ≡ byte / 2 ^ (number * 2 ^ depth) % 2 ^ (2 ^ depth) ⌝ }
 {
     let bits = 1u64 << depth;
-    let above = byte as u64 >> (number as u64 * bits);
-    (above % (1u64 << bits)) as u8
+    let from = number << depth;
+    let mask = (1u64 << bits) - 1;
+    let above = byte as u64 >> from;
+    (above & mask) as u8
 }
 
 // The byte that the pixel at a place stands in.
 pub fn byte_of(control: u32, place: u64) -> u64
     ensures byte { λ r. ⌜ r ≡ byteOf (pixelBits control) place ⌝ }
 {
-    let per = per_byte(control);
-    place / per
+    let depth = control::depth_code(control);
+    place >> (3 - depth)
 }
 
 // The pixel at a place, out of its byte.
@@ -39,7 +42,8 @@ pub fn pixel_in(control: u32, byte: u8, place: u64) -> u8
     if per == 1 {
         return byte;
     }
-    picked(byte, (place % per) as u32, control::depth_code(control))
+    let number = (place & (per - 1)) as u32;
+    picked(byte, number, control::depth_code(control))
 }
 
 // The pixel at a place; past the memory 0, and with transfers switched off 0 everywhere.

@@ -1,6 +1,7 @@
 -- `memory::byte_of` meets its contract: pixels do not cross from one byte to the next. Assumes nothing.
-use mathlib.Core.Path.{_∙_}
-use Rattle.memory.proofs.Bytes.{per-positive, byte-by}
+use native.Mathlib.Omega.{arith}
+use Rattle.control.specs.Control.{depth}
+use Rattle.memory.proofs.Bytes.{filled, byte-by}
 use Rattle.memory.proofs.byte_of.Statement.{statement}
 use Rattle.memory.proofs.byte_of.Tie as tie
 
@@ -9,5 +10,7 @@ byte-of-spec =
     tie.close
     (tie.spec
     (λ c κs. tt)
-    (λ c. per-positive _ _ (c .per-byte .ensures))
-    (λ c. byte-by _ _ (c .per-byte .ensures) _))
+    (λ c. omega arith)
+    (λ c. omega arith)
+    (λ c. omega arith)
+    (λ c. rw (c .depth-code .ensures) (byte-by _ _ (filled (depth (c .before .args .control)) (omega arith)) _)))
