@@ -10,6 +10,17 @@ use Rattle.control.specs.Control.{depth, pixelBits}
 use Rattle.memory.specs.Memory.{pixelIn}
 use Rattle.memory.proofs.Bytes.{number-masked, number-small, whole-byte, shift-by}
 
+module _ (control byte place per : ℕ) (whole : per * pixelBits control ≡ 8) where
+  -- the pixel of its number there
+  pub in-byte : (code pixel : ℕ) → code ≡ depth control → pixel ≡ byte / 2 ^ (place % per * 2 ^ code) % 2 ^ (2 ^ code) → pixel ≡ pixelIn (pixelBits control) byte place
+  in-byte code pixel d e = e ∙ rw (d, shift-by per (pixelBits control) whole place)
+
+  pub in-whole : per ≡ 1 → byte < 256 → byte ≡ pixelIn (pixelBits control) byte place
+  in-whole one small =
+      let eight : pixelBits control ≡ 8 = omega (arith, rw one at whole) in
+      rw eight (whole-byte byte place small)
+
+-- the same where its number is a mask of its place
 module _ (control place per : ℕ) (whole : per * pixelBits control ≡ 8) where
   masked : bitAnd place (per - 1) ≡ place % per
   masked = number-masked (depth control) (omega arith) per whole place
@@ -20,12 +31,5 @@ module _ (control place per : ℕ) (whole : per * pixelBits control ≡ 8) where
   pub masked-fits : Fits w32 (bitAnd place (per - 1))
   masked-fits = fits-lt masked-small (fits-lit tt)
 
-  module _ (byte : ℕ) where
-    -- the pixel of its number there
-    pub in-byte : (code pixel : ℕ) → code ≡ depth control → pixel ≡ byte / 2 ^ (bitAnd place (per - 1) * 2 ^ code) % 2 ^ (2 ^ code) → pixel ≡ pixelIn (pixelBits control) byte place
-    in-byte code pixel d e = e ∙ rw (d, masked, shift-by per (pixelBits control) whole place)
-
-    pub in-whole : per ≡ 1 → byte < 256 → byte ≡ pixelIn (pixelBits control) byte place
-    in-whole one small =
-        let eight : pixelBits control ≡ 8 = omega (arith, rw one at whole) in
-        rw eight (whole-byte byte place small)
+  pub in-byte-masked : (byte code pixel : ℕ) → code ≡ depth control → pixel ≡ byte / 2 ^ (bitAnd place (per - 1) * 2 ^ code) % 2 ^ (2 ^ code) → pixel ≡ pixelIn (pixelBits control) byte place
+  in-byte-masked byte code pixel d e = in-byte control byte place per whole code pixel d (e ∙ rw masked)

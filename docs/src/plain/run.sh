@@ -14,22 +14,10 @@ command -v rustc >/dev/null 2>&1 || { echo "run.sh: rustc is not on the PATH, so
 machine=$(uname -m)
 out=$here/target/speed
 rm -rf "$out"
-mkdir -p "$out/toolchain/bin"
-
-# the kit's toolchain, with a clang that keeps the module it is handed
-ln -s "$tools/lib" "$out/toolchain/lib"
-for tool in ld.lld llvm-ar; do ln -s "$tools/bin/clang" "$out/toolchain/bin/$tool"; done
-printf '#!/bin/sh\nfor w in "$@"; do case $w in *.bc) cp "$w" "%s/module.bc" ;; esac; done\nexec "%s/bin/clang" "$@"\n' "$out" "$tools" >"$out/toolchain/bin/clang"
-chmod +x "$out/toolchain/bin/clang"
+. .ci/module.sh
 
 rt check speed >"$out/check" 2>&1 || { tail "$out/check" >&2; exit 1; }
-set --
-for d in $(reach speed | sed -n 's/^speed://p'); do
-    if [ -d "crates/$d" ]; then set -- "$@" --extern "$d=target/rlib/$d.rlib"; else set -- "$@" --extern "$d=$own/rlib/$d.rlib"; fi
-done
-"$own/bin/rattle" build --crate-name speed crates/speed/src/lib.rt --crate-type staticlib --toolchain "$out/toolchain" -o "$out/libspeed.a" \
-    --extern "std=$own/rlib/std.rlib" "$@" -L dependency=target/rlib -L "dependency=$own/rlib" \
-    --antt-project "$kit/logic/antt-project.json" --logic-built "$own/logic-built" >"$out/build" 2>&1 || { tail "$out/build" >&2; exit 1; }
+archive speed crates/speed/src/lib.rt $(reach speed | sed -n 's/^speed://p')
 
 if [ "$machine" != x86_64 ]; then
     clang=$tools/bin/clang
