@@ -1,5 +1,7 @@
 // A clinical audiogram in picture memory: 640 by 480 pixels of 2 bits, four to a byte, least significant bits first; for one field, or for two
 // that show its lines in turn.
+#![tactic(auto)]
+
 mod entry;
 
 ghost use Rattle.std.specs.Prelude.{◌≡◌, ◌*◌, ◌<◌, ◌≤◌, min};
@@ -18,7 +20,7 @@ pub fn size_of(interlaced: bool) -> usize
 }
 
 // A byte of the memory: its field, and its number among the bytes of that field.
-#[derive(Drop)]
+#[derive(Clone, Copy)]
 struct Spot {
     field: u16,
     number: u32,
@@ -44,7 +46,7 @@ fn spot_at(interlaced: bool, i: u32) -> Spot
 }
 
 // What a byte holds: four pixels of a line of the chart, from the first on, or none.
-#[derive(Drop)]
+#[derive(Clone, Copy)]
 struct Four {
     held: bool,
     x: u16,

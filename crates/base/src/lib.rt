@@ -1,4 +1,6 @@
 // What every rule uses: total helpers, each with one equation for its promise.
+#![tactic(auto)]
+
 pub mod channels;
 
 ghost use Rattle.std.specs.Prelude.{◌≡◌, cond, ◌-◌, ◌*◌, ◌<◌, get_or};

@@ -1,5 +1,7 @@
 // Two screens ticked twice side by side, with the generator lent and by value: the bench screen with the sixteen bytes that a frame shows, with
 // one byte less, and stopped; then an interlaced one. Prints for each how many calls were accepted and at how many the two differed.
+#![tactic(auto)]
+
 ghost use Rattle.std.specs.Prelude.{◌+◌, ◌<◌, ◌≡◌, length};
 ghost use Rattle.generator.specs.Tick.{tick_of};
 ghost use Rattle.generator.specs.Sound.{Sound};

@@ -1,4 +1,6 @@
 // A machine's calls with the one condition beside each: the beginning, a write, ticks, its picture's size and its nine checksum bytes.
+#![tactic(auto)]
+
 ghost use Rattle.std.specs.Prelude.{◌≡◌, cond, ◌<◌, min};
 ghost use Rattle.control.specs.Control.{running};
 ghost use Rattle.units.specs.Parameters.{halves_to_vDisplay};
@@ -18,7 +20,7 @@ use screen::totals;
 use units::{HalfLines, ScreenUnits};
 
 // The ticks that a `run` has done, its refusal or 0, and the machine after it.
-#[derive(Drop)]
+#[derive(Clone, Copy)]
 pub struct Ran {
     pub done: u32,
     pub refusal: u32,
@@ -26,7 +28,7 @@ pub struct Ran {
 }
 
 // The width and height of a picture; and, of an interlaced one, the pixels of a line's first half, 0 of any other.
-#[derive(Drop)]
+#[derive(Clone, Copy)]
 pub struct Size {
     pub width: u64,
     pub height: u64,
@@ -70,7 +72,7 @@ fn fewer(left: u64, due: u32) -> u32
 }
 
 // Ticks passed over, and the generator after them.
-#[derive(Drop)]
+#[derive(Clone, Copy)]
 struct Passed {
     ticks: u32,
     next: Generator,
@@ -234,7 +236,7 @@ pub fn size_of(m: Machine) -> Size
 }
 
 // The refusal of the checksums' reads or 0, and the three words; 0 where refused.
-#[derive(Drop)]
+#[derive(Clone, Copy)]
 pub struct Checksums {
     pub refusal: u32,
     pub words: [u32; 3],

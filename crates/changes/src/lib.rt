@@ -1,4 +1,6 @@
 // What a good command does (docs/SCRIPT.md): to the machine, to the memory lent and to the picture.
+#![tactic(auto)]
+
 mod lent_memory;
 
 ghost use Rattle.std.specs.Prelude.{◌≡◌, ◌++◌, ◌≤◌, length, take, drop};
@@ -12,7 +14,7 @@ use script::command::Command;
 use script::names;
 
 // Its refusal or 0, the ticks that it has run, the bytes of memory lent from then on, and the machine after it.
-#[derive(Drop)]
+#[derive(Clone, Copy)]
 pub struct Done {
     pub refusal: u32,
     pub ticks: u32,

@@ -1,12 +1,14 @@
 // Reads a patient's thresholds on standard input and writes the bench script that draws their chart, in today's rooms or, asked by the word
 // `interlaced`, in the oldest; a wrong line is named on standard error.
+#![tactic(auto)]
+
 use input::LINE;
 use patient::thresholds::Chart;
 use patient::{level, thresholds};
 use scribe::{ending, pokes, settings};
 
 // The chart read so far, the lines read, and a fault or 0.
-#[derive(Drop)]
+#[derive(Clone, Copy)]
 struct Desk {
     chart: Chart,
     lines: u64,
@@ -14,7 +16,7 @@ struct Desk {
 }
 
 // The room that a script is asked for, and whether there is such a room.
-#[derive(Drop)]
+#[derive(Clone, Copy)]
 struct Asked {
     known: bool,
     interlaced: bool,

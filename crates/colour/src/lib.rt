@@ -1,4 +1,6 @@
 // Colours (01, "Rows and pixels"): the palette under the mask.
+#![tactic(auto)]
+
 ghost use Rattle.std.specs.Prelude.{◌≡◌, get_or};
 ghost use Rattle.std.specs.Int.Bits.{bit_and};
 ghost use Rattle.colour.specs.Colour.{masked_colour, masked_palette};

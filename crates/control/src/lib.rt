@@ -1,4 +1,6 @@
 // Control A (01, "Register map"; 02, Q-4): which words are in the build, and what their bits mean. Any number may be asked about.
+#![tactic(auto)]
+
 ghost use Rattle.std.specs.Prelude.{◌≡◌, ◌^◌, ◌<◌};
 ghost use Rattle.control.specs.Control.{running, interlaced, plain, forced_blank, transferring, cursor_on, outside, depth, shift_period, increment_code, increment, offset, row_divisor};
 

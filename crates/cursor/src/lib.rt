@@ -1,4 +1,6 @@
 // The cursor (01, "Rows and pixels"): its code at a pixel, by signed differences, and its colours.
+#![tactic(auto)]
+
 ghost use Rattle.std.specs.Prelude.{◌≡◌, ◌<◌, pos, ◌-ℤ◌, get_or};
 ghost use Rattle.control.specs.Control.{field};
 ghost use Rattle.cursor.specs.Cursor.{signed12, within, code_at, cursor_code, first_column, first_line, near, over};

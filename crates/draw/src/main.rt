@@ -1,5 +1,7 @@
 // Reads a bench script on standard input and writes the last picture drawn on standard output, as a binary PPM; refusals and errors go to
 // standard error.
+#![tactic(auto)]
+
 fn main() {
     session::session(report::PICTURE);
 }

@@ -1,4 +1,6 @@
 // The form that a chart is drawn on: the grid, and the labels beside it.
+#![tactic(auto)]
+
 ghost use Rattle.std.specs.Prelude.{◌≡◌, false, ◌&&◌, ℕ, ◌<◌, ◌≤◌, get_or};
 ghost use Rattle.form.specs.Form.{grid, font, inked, dot, text_at, labelled, form};
 
@@ -148,7 +150,7 @@ fn is_label(k: usize, p: Point) -> bool
 }
 
 // The labels that a pixel is asked about.
-#[derive(Drop)]
+#[derive(Clone, Copy)]
 struct Labels {
     first: usize,
     end: usize,

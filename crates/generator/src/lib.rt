@@ -1,4 +1,6 @@
 // The video timing generator (01, "Lines and frames", "Rows and pixels"; 02, Q-4): its record, and one tick by value.
+#![tactic(auto)]
+
 mod output;
 mod stand;
 
@@ -17,7 +19,7 @@ use units::{HalfLines, ScreenUnits};
 
 // Whether the next tick lies in the second field of an interlaced frame, its half line in the field and its number in that half line; the
 // field's visible ticks so far; the last address; the checksums; the request at the last visible tick.
-#[derive(Drop)]
+#[derive(Clone, Copy)]
 pub struct Generator {
     pub second: bool,
     pub half: HalfLines,
@@ -76,7 +78,7 @@ pub fn top_used(n: Numbers, second: bool) -> u32
 }
 
 // A tick's refusal or 0, what it puts out, and the generator after it.
-#[derive(Drop)]
+#[derive(Clone, Copy)]
 pub struct Ticked {
     pub refusal: u32,
     pub signals: Signals,
@@ -84,7 +86,7 @@ pub struct Ticked {
 }
 
 // Ticks one after another, as a caller does them: how many were done, the refusal that ended them or 0, and the generator then.
-#[derive(Drop)]
+#[derive(Clone, Copy)]
 pub struct Went {
     pub done: u32,
     pub refusal: u32,

@@ -20,7 +20,7 @@ use units::Screen;
 
 // The screen, and the tick's moment; whether a row is transferred, and the address held; the request at a
 // visible tick, and at this one; whether its pixels show, and the place of the first.
-#[derive(Drop)]
+#[derive(Clone, Copy)]
 pub struct Stand {
     pub screen: Screen,
     pub moment: Moment,

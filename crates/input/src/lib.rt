@@ -1,4 +1,6 @@
 // Standard input, line by line: bytes up to LF, with a CR just before it.
+#![tactic(auto)]
+
 ghost use Rattle.std.specs.Prelude.{◌≡◌, ◌-◌, ◌≤◌, take};
 ghost use Rattle.input.specs.Input.{taken_line, taken_room, line_of, first_reader, next_from, next_count, is_line, one_more};
 
@@ -10,7 +12,7 @@ pub const PIECE: usize = 65536;
 pub const LINE: usize = 1002;
 
 // The next byte of the piece, the bytes of the line so far, and whether it has ended. Past the longest line bytes are counted no more.
-#[derive(Drop)]
+#[derive(Clone, Copy)]
 pub struct Taken {
     pub at: usize,
     pub length: usize,
@@ -19,7 +21,7 @@ pub struct Taken {
 
 // The bytes in the piece, what was taken of it, and the turns left: none past the input's end. A loop over the input has to end, and nothing
 // says that an input does: it counts from a number that no input uses up.
-#[derive(Drop)]
+#[derive(Clone, Copy)]
 pub struct Reader {
     pub size: usize,
     pub taken: Taken,

@@ -1,4 +1,6 @@
 // One tick with the generator lent: a call advances the record that its caller keeps.
+#![tactic(auto)]
+
 ghost use Rattle.std.specs.Prelude.{◌≡◌};
 ghost use Rattle.generator.specs.Tick.{tick_of};
 ghost use Rattle.generator.specs.Sound.{Sound};
@@ -9,7 +11,7 @@ use registers::Registers;
 use signals::Signals;
 
 // A tick's refusal or 0, and what it puts out.
-#[derive(Drop)]
+#[derive(Clone, Copy)]
 pub struct Answer {
     pub refusal: u32,
     pub signals: Signals,

@@ -1,4 +1,6 @@
 // Where a tick stands (01, "Lines and frames"; 02, Q-4): its period, its line, its sync, and the tick after it; and what a field shows in all.
+#![tactic(auto)]
+
 ghost use Rattle.std.specs.Prelude.{◌≡◌, false, cond, ◌+◌, ◌-◌, ◌^◌, ◌<◌, min, ltb};
 ghost use Rattle.units.specs.Parameters.{screen_of, in_field, display_from, halves_to_vBlank, halves_in_field};
 ghost use Rattle.lines.specs.Lines.{period, is_vDisplay, line_from, in_line, lead, low_in, ends_of, field_visible, moment_of};
@@ -7,7 +9,7 @@ ghost use Rattle.lines.specs.declared.Period.TheVariants.{PreEqualise, VSync, Po
 use units::Screen;
 
 // The five periods, in frame order.
-#[derive(Drop)]
+#[derive(Clone, Copy)]
 pub enum Period {
     PreEqualise,
     VSync,
@@ -18,7 +20,7 @@ pub enum Period {
 
 // What a place in a field says of its tick: it lies in VSync, in VDisplay; it is visible; sync is low; it is the first tick of VDisplay, or
 // the field's last. Its column and its line, as a visible tick has them. And the place after it: its field, its half line and its number there.
-#[derive(Drop)]
+#[derive(Clone, Copy)]
 pub struct Moment {
     pub vsyncing: bool,
     pub vdisplaying: bool,
@@ -34,7 +36,7 @@ pub struct Moment {
 }
 
 // The half lines before the end of each period but the last.
-#[derive(Drop)]
+#[derive(Clone, Copy)]
 struct Ends {
     pre: u64,
     sync: u64,
@@ -172,7 +174,7 @@ pub fn moment_of(
 }
 
 // What a field shows: Display ticks of its first line before its VDisplay, and its visible ticks.
-#[derive(Drop)]
+#[derive(Clone, Copy)]
 pub struct Shown {
     pub lead: u64,
     pub visible: u64,

@@ -1,4 +1,6 @@
 // The machine (01): registers and generator by value. Every call hands back the next machine beside its answer.
+#![tactic(auto)]
+
 pub mod access;
 mod checksum;
 
@@ -11,21 +13,21 @@ use registers::map::Place;
 use registers::{Registers, map};
 use signals::Signals;
 
-#[derive(Drop)]
+#[derive(Clone, Copy)]
 pub struct Machine {
     pub regs: Registers,
     pub generator: Generator,
 }
 
 // A write's refusal or 0, and the machine after it.
-#[derive(Drop)]
+#[derive(Clone, Copy)]
 pub struct Written {
     pub refusal: u32,
     pub machine: Machine,
 }
 
 // A read's refusal or 0, the value, and the machine after it.
-#[derive(Drop)]
+#[derive(Clone, Copy)]
 pub struct Answered {
     pub refusal: u32,
     pub value: u32,
@@ -33,7 +35,7 @@ pub struct Answered {
 }
 
 // A tick's refusal or 0, what it puts out, and the machine after it.
-#[derive(Drop)]
+#[derive(Clone, Copy)]
 pub struct Advanced {
     pub refusal: u32,
     pub signals: Signals,

@@ -1,4 +1,6 @@
 // An ear's marks and lines: whether a pixel belongs to a ring, a cross or a line between two points.
+#![tactic(auto)]
+
 pub mod ear;
 pub mod points;
 

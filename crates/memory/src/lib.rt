@@ -1,5 +1,7 @@
 // Picture memory (01, "Rows and pixels"; 02, Q-3): a pixel out of packed bytes, at any depth, and where the memory ends. Shifts and masks
 // alone, for processors with no multiply.
+#![tactic(auto)]
+
 ghost use Rattle.std.specs.Prelude.{◌≡◌, ◌*◌, ◌/◌, ◌%◌, ◌^◌, ◌<◌};
 ghost use Rattle.control.specs.Control.{pixel_bits};
 ghost use Rattle.memory.specs.Memory.{byte_of, pixel_in, ends_beyond, pixel_shown};

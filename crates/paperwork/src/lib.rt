@@ -1,4 +1,6 @@
 // The commands over sheets and checksums: `sheet`, `field`, `compare` and `store`.
+#![tactic(auto)]
+
 pub mod store;
 
 ghost use Rattle.std.specs.Prelude.{◌≡◌, ◌-◌, get_or, take};

@@ -7,7 +7,7 @@ use script::command::Command;
 use sheet::writer;
 
 // What a `store` answers: a refusal or 0, the room, and its bytes.
-#[derive(Drop)]
+#[derive(Clone, Copy)]
 pub struct Stored {
     pub refusal: u32,
     pub room: usize,

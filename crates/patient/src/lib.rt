@@ -1,4 +1,6 @@
 // A patient's line, read into the two ears' thresholds.
+#![tactic(auto)]
+
 pub mod level;
 pub mod thresholds;
 
@@ -18,7 +20,7 @@ const FREQUENCIES: [u32; 11] = [125, 250, 500, 750, 1000, 1500, 2000, 3000, 4000
 pub const TOO_LONG: u32 = 8;
 
 // A level, and the place past its word.
-#[derive(Drop)]
+#[derive(Clone, Copy)]
 pub struct Ear {
     pub level: Level,
     pub to: usize,

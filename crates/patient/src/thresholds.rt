@@ -3,7 +3,7 @@ ghost use Rattle.std.specs.Prelude.{◌≡◌, get_or, set};
 ghost use Rattle.patient.specs.Thresholds.{fault_of, placed, fresh};
 
 // Levels by frequency, 125 to 8000 Hz: number n is -10 + 5 x n dB hearing level, up to 26; a larger one is not measured.
-#[derive(Drop)]
+#[derive(Clone, Copy)]
 pub struct Chart {
     pub right: [u8; 11],
     pub left: [u8; 11],
@@ -22,14 +22,14 @@ pub const TOO_MANY_WORDS: u32 = 4;
 const NOT_GIVEN: u8 = 255;
 
 // A fault or 0, and the level's number on the chart.
-#[derive(Drop)]
+#[derive(Clone, Copy)]
 pub struct Level {
     pub fault: u32,
     pub number: u8,
 }
 
 // A fault or 0, and the chart with the line's levels; a fault leaves the chart as it was.
-#[derive(Drop)]
+#[derive(Clone, Copy)]
 pub struct Reading {
     pub fault: u32,
     pub chart: Chart,

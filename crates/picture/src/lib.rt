@@ -1,4 +1,6 @@
 // A whole picture (01, "Refusal numbers", 20 to 22; "Rows and pixels"; 02, Q-4): a frame drawn at once, field by field, as its ticks draw it.
+#![tactic(auto)]
+
 mod plan;
 mod span;
 mod stretch;
@@ -24,7 +26,7 @@ use units::{HalfLines, ScreenUnits};
 pub use whole::{Pictured, draw_machine};
 
 // The refusal, or 0, and the generator after the picture.
-#[derive(Drop)]
+#[derive(Clone, Copy)]
 pub struct Drawn {
     pub refusal: u32,
     pub next: Generator,

@@ -14,7 +14,7 @@ use registers::Registers;
 
 // The numbers of a field, the first or the second: ticks of a line's Display, those of them before its VDisplay, visible ticks of the picture
 // before it, its own, R, the first address, the step to the next and what an address is divided by for its row's number.
-#[derive(Drop)]
+#[derive(Clone, Copy)]
 pub struct Plan {
     pub second: bool,
     pub display: u64,

@@ -3,7 +3,7 @@ ghost use Rattle.std.specs.Prelude.{◌≡◌, ◌-◌, min};
 ghost use Rattle.picture.specs.Stretch.{Clipped};
 
 // Pixels in a row: where the first is stored, its place in the memory, its column and its line, and how many there are.
-#[derive(Drop)]
+#[derive(Clone, Copy)]
 pub struct Stretch {
     pub at: usize,
     pub from: u64,
@@ -13,7 +13,7 @@ pub struct Stretch {
 }
 
 // Of a stretch, the pixels from `left` up to, not including, `right` may lie under the cursor.
-#[derive(Drop)]
+#[derive(Clone, Copy)]
 pub struct Columns {
     pub left: u64,
     pub right: u64,

@@ -7,7 +7,7 @@ ghost use Rattle.picture.specs.Machines.{pictured};
 use machine::Machine;
 
 // The refusal, or 0, and the machine after the picture.
-#[derive(Drop)]
+#[derive(Clone, Copy)]
 pub struct Pictured {
     pub refusal: u32,
     pub machine: Machine,

@@ -1,4 +1,6 @@
 // One pixel (01, "Rows and pixels"): from picture memory through mask, palette and cursor to the colour put out, and its checksums.
+#![tactic(auto)]
+
 ghost use Rattle.std.specs.Prelude.{◌≡◌, cond, ◌<◌};
 ghost use Rattle.registers.specs.File.{file_of};
 ghost use Rattle.pixel.specs.Dot.{coloured, dot_below, dot_at};
@@ -10,7 +12,7 @@ use registers::Numbers;
 use signals::Dot;
 
 // The three 24-bit sums of colour bytes.
-#[derive(Drop)]
+#[derive(Clone, Copy)]
 pub struct Sums {
     pub red: u32,
     pub green: u32,
@@ -18,7 +20,7 @@ pub struct Sums {
 }
 
 // Where a pixel stands: its place in the picture memory, its column and its line.
-#[derive(Drop)]
+#[derive(Clone, Copy)]
 pub struct Spot {
     pub place: u64,
     pub x: u32,

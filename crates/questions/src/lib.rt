@@ -1,4 +1,6 @@
 // The commands that only ask: in answers what they found is shown, elsewhere nothing unless they are refused.
+#![tactic(auto)]
+
 ghost use Rattle.std.specs.Prelude.{◌≡◌, length, take};
 ghost use Rattle.generator.specs.Sound.{Sound};
 ghost use Rattle.room.specs.Room.{put_texts, put_ends};
@@ -16,7 +18,7 @@ use script::names;
 use text::rows;
 
 // What a command has found: its refusal or 0, and the place past its answer. Where only a verdict is due, that is put over it.
-#[derive(Drop)]
+#[derive(Clone, Copy)]
 struct Finding {
     refusal: u32,
     end: usize,

@@ -1,4 +1,6 @@
 // The register file (01, "Register map"): the registers by value.
+#![tactic(auto)]
+
 pub mod map;
 
 ghost use Rattle.std.specs.Prelude.{◌≡◌};
@@ -7,7 +9,7 @@ ghost use Rattle.registers.specs.declared.map.Place.TheVariants.{Parameter, Colo
 
 use crate::map::Place;
 
-#[derive(Drop)]
+#[derive(Clone, Copy)]
 pub struct Registers {
     pub params: [u32; 14],
     pub mask: u32,
@@ -20,7 +22,7 @@ pub struct Registers {
 }
 
 // What a tick asks of them for a number: all but the cursor colours, the palette and the cursor store.
-#[derive(Drop)]
+#[derive(Clone, Copy)]
 pub struct Numbers {
     pub params: [u32; 14],
     pub mask: u32,

@@ -5,7 +5,7 @@ ghost use Rattle.registers.specs.Map.{register_map, place_among, place_of, row_o
 use base::less;
 
 // What stands at an address, with its number in its row of the map.
-#[derive(Drop)]
+#[derive(Clone, Copy)]
 pub enum Place {
     Reserved,
     Parameter(u32),

@@ -1,4 +1,6 @@
 // What is shown of a script, in each of the three forms that the programs write.
+#![tactic(auto)]
+
 mod notes;
 pub mod phrases;
 mod ticks;
@@ -12,7 +14,7 @@ use signals::Signals;
 
 // The form; the lines read; the bytes that wait to be written; the ticks so far and what the last one put out; the last picture's size, 0
 // before one, and the pixels of a line's first half where it is interlaced.
-#[derive(Drop)]
+#[derive(Clone, Copy)]
 pub struct Page {
     pub form: u32,
     pub lines: u64,

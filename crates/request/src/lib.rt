@@ -1,4 +1,6 @@
 // The transfer request (01, "Rows and pixels"). Any numbers may be asked about.
+#![tactic(auto)]
+
 ghost use Rattle.std.specs.Prelude.{◌≡◌};
 ghost use Rattle.request.specs.Request.{asking, requested};
 
@@ -11,7 +13,7 @@ pub fn is_asking(on: bool, meminit: u64, rest: u64) -> bool
 
 // What is known of a tick. Row transfers are on, the tick is visible; what a visible tick asks, and whether this one leads, before the field's
 // first visible one; the field's visible ticks so far, and all of them; what the last visible tick asked.
-#[derive(Drop)]
+#[derive(Clone, Copy)]
 pub struct Known {
     pub on: bool,
     pub visible: bool,

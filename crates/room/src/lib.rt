@@ -1,4 +1,6 @@
 // Lent bytes: texts put into them, and their parts.
+#![tactic(auto)]
+
 pub mod bytes;
 
 ghost use Rattle.std.specs.Prelude.{◌≡◌, cond, length, take, ◌-◌, ◌≤◌};

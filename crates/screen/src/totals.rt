@@ -8,7 +8,7 @@ use crate::{conversions, limits};
 use units::{HalfLines, Pixels, ScreenUnits};
 
 // The refusal, or 0 and what one frame comes to; a refused screen has 0 for all else.
-#[derive(Drop)]
+#[derive(Clone, Copy)]
 pub struct Totals {
     pub refusal: u32,
     pub ticks: ScreenUnits,

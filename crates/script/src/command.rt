@@ -13,7 +13,7 @@ const SIZES: [u32; 12] = [
 ];
 
 // A command: its name, a fault or 0, its numbers, and for `compare` those of the right side.
-#[derive(Drop)]
+#[derive(Clone, Copy)]
 pub struct Command {
     pub name: u32,
     pub fault: u32,

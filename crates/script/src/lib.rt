@@ -1,4 +1,6 @@
 // The lines of a bench script (docs/SCRIPT.md): those that answer nothing, and the command of any other.
+#![tactic(auto)]
+
 pub mod command;
 pub mod names;
 mod numbers;

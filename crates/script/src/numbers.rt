@@ -13,7 +13,7 @@ const MOSTS: [usize; 13] = [2, 1, 1, 65, 4, 1, 1, 1, 0, 80, 81, 15, 16];
 const PLAINS: [usize; 13] = [2, 1, 1, 1, 4, 1, 1, 1, 0, 0, 1, 15, 0];
 
 // The numbers of a command: a fault or 0, how many there are, and their values, 0 past them.
-#[derive(Drop)]
+#[derive(Clone, Copy)]
 pub struct Numbers {
     pub fault: u32,
     pub count: usize,

@@ -1,4 +1,6 @@
 // A whole script (docs/SCRIPT.md), from standard input, in one of three forms: answers, a waveform of the ticks, or the last picture.
+#![tactic(auto)]
+
 ghost use Rattle.std.specs.Prelude.{◌≤◌, ◌<◌, ◌≡◌, length};
 ghost use Rattle.generator.specs.Sound.{Sound};
 ghost use Rattle.changes.specs.LentMemory.{memory_after};
@@ -16,7 +18,7 @@ use text::ppm;
 use weave::Weave;
 
 // What the last command has done, the machine and the memory lent with it; and what has been shown.
-#[derive(Drop)]
+#[derive(Clone, Copy)]
 struct Desk {
     done: Done,
     page: Page,

@@ -1,4 +1,6 @@
 // The reader of screen sheets (01, "Screen sheet"). Any bytes may be given.
+#![tactic(auto)]
+
 pub mod field;
 mod tags;
 pub mod writer;
@@ -8,7 +10,7 @@ ghost use Rattle.sheet.specs.Encoding.{tags};
 ghost use Rattle.sheet.specs.Reader.{field_refusal, refusal_from, values_from, read_sheet};
 
 // What a sheet answers: a refusal, or 0 and the fourteen values.
-#[derive(Drop)]
+#[derive(Clone, Copy)]
 pub struct Sheet {
     pub refusal: u32,
     pub values: [u32; 14],

@@ -1,15 +1,17 @@
 // What goes out at a tick (01, "Lines and frames", "Rows and pixels"): its signals, and its pixels among them.
+#![tactic(auto)]
+
 ghost use Rattle.std.specs.Prelude.{◌≡◌};
 ghost use Rattle.signals.specs.Signals.{colours_of, silent};
 
 // A pixel that goes out: its colour, red in bits 23 to 16, green, blue.
-#[derive(Drop)]
+#[derive(Clone, Copy)]
 pub struct Dot {
     pub colour: u32,
 }
 
 // What a tick puts out. An address is answered exactly where `transfer` is set.
-#[derive(Drop)]
+#[derive(Clone, Copy)]
 pub struct Signals {
     pub sync: bool,
     pub vsync: bool,

@@ -1,4 +1,6 @@
 // The whole picture and the tick exported to C for docs/SPEED.md: the registers lent as they stand, the generator at the frame's start.
+#![tactic(auto)]
+
 ghost use Rattle.std.specs.Prelude.{◌≡◌, ◌+◌, ◌≤◌, length};
 ghost use Rattle.std.proofs.lemmas.List.Edits.{sets};
 ghost use Rattle.registers.specs.File.{file_of};
@@ -16,7 +18,7 @@ use units::{HalfLines, ScreenUnits};
 
 // The refusal or 0, and the three sums.
 #[repr(C)]
-#[derive(Drop)]
+#[derive(Clone, Copy)]
 pub struct Shown {
     pub refusal: u32,
     pub red: u32,

@@ -1,4 +1,6 @@
 // What the station's host program calls from C (01): the comparison of checksums, and one field of a sheet. include/station.h declares both.
+#![tactic(auto)]
+
 ghost use Rattle.std.specs.Prelude.{◌≡◌};
 ghost use Rattle.station.specs.Number.{number, checksums_number, field_number};
 

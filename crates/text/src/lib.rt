@@ -1,4 +1,6 @@
 // Text that programs write, put into a lent room: numbers, rows of them, and the head of a PPM.
+#![tactic(auto)]
+
 pub mod hex;
 pub mod ppm;
 pub mod rows;

@@ -1,4 +1,6 @@
 // Reads one screen sheet on standard input, at 8 bits, increment 1, transfers on: prints `refused N`, or the frame's four totals.
+#![tactic(auto)]
+
 use screen::totals;
 use screen::totals::Totals;
 

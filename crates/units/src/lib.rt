@@ -1,19 +1,21 @@
 // A screen's counts in three units (01, "Starting a screen") and its fourteen parameters (01, "Register map"), in both formats (02, Q-4).
+#![tactic(auto)]
+
 ghost use Rattle.std.specs.Prelude.{◌≡◌};
 ghost use Rattle.units.specs.Parameters.{screen_of, in_field, displayed_lines};
 
 // Three counts that never stand in for one another. One screen unit is one tick.
-#[derive(Drop)]
+#[derive(Clone, Copy)]
 pub struct ScreenUnits(pub u64);
 
-#[derive(Drop)]
+#[derive(Clone, Copy)]
 pub struct HalfLines(pub u64);
 
-#[derive(Drop)]
+#[derive(Clone, Copy)]
 pub struct Pixels(pub u64);
 
 // The fourteen parameters, in register order; the format, and which of its fields is meant.
-#[derive(Drop)]
+#[derive(Clone, Copy)]
 pub struct Screen {
     pub halfsync: ScreenUnits,
     pub backporch: ScreenUnits,

@@ -1,4 +1,6 @@
 // Checksums as the regulator compares them (01): their nine bytes, and whether two of them match. Any words and bytes may be given.
+#![tactic(auto)]
+
 ghost use Rattle.std.specs.Prelude.{◌≡◌};
 ghost use Rattle.vault.specs.Nine.{nine_bytes};
 ghost use Rattle.vault.specs.Compare.{compared};
@@ -6,7 +8,7 @@ ghost use Rattle.vault.specs.Compare.{compared};
 use base::channels;
 
 // A refusal, or 0 and whether the two are equal.
-#[derive(Drop)]
+#[derive(Clone, Copy)]
 pub struct Comparison {
     pub refusal: u32,
     pub equal: bool,

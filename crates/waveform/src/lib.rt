@@ -1,4 +1,6 @@
 // A waveform as text (a VCD file): its head, and its ticks with their times.
+#![tactic(auto)]
+
 mod bit_wires;
 mod wide_wires;
 

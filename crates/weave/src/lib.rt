@@ -1,4 +1,6 @@
 // An interlaced picture (02, Q-4), woven for a file as a tube shows it, row by row.
+#![tactic(auto)]
+
 ghost use Rattle.std.specs.Prelude.{◌≡◌, ◌++◌, ◌+◌, ◌≤◌, ◌<◌, ◌^◌, length, drop};
 ghost use Rattle.std.proofs.lemmas.List.Edits.{sets};
 ghost use Rattle.base.specs.Count.{run};
@@ -7,7 +9,7 @@ ghost use Rattle.weave.specs.Weave.{start_of, is_row, row_put};
 ghost use Rattle.weave.specs.Part.{part_of, byte_in, Small};
 
 // A line's pixels, VDisplay, the pixels of a line's first half, and whether the first field begins late, with a second half.
-#[derive(Drop)]
+#[derive(Clone, Copy)]
 pub struct Weave {
     pub width: u64,
     pub lines: u64,
@@ -35,7 +37,7 @@ fn start_of(w: Weave, b: bool) -> u64
 }
 
 // A row in bytes: what its field has above it, where along its rows the field begins and ends, and where it begins in the picture.
-#[derive(Drop)]
+#[derive(Clone, Copy)]
 struct Part {
     above: u64,
     from: u64,

@@ -1,4 +1,6 @@
 // The words of a line, bytes parted by spaces or tabs, and words as numbers.
+#![tactic(auto)]
+
 pub mod number;
 pub mod slash;
 
@@ -6,7 +8,7 @@ ghost use Rattle.std.specs.Prelude.{◌≡◌, ◌≤◌, ◌-◌, length, take,
 ghost use Rattle.words.specs.Words.{blank, past_run, skip, front, past, word_count};
 
 // A word's first byte and the place past its last one; both are the line's end where no word is left.
-#[derive(Drop)]
+#[derive(Clone, Copy)]
 pub struct Word {
     pub from: usize,
     pub to: usize,

@@ -3,7 +3,7 @@ ghost use Rattle.std.specs.Prelude.{◌≡◌, Bool, cond, ◌+◌, ◌*◌, ◌
 ghost use Rattle.words.specs.Numbers.{digit_of, base_of, largest, digits_number, number_of};
 
 // A fault or 0, and the value; a fault leaves no value.
-#[derive(Drop)]
+#[derive(Clone, Copy)]
 pub struct Number {
     pub fault: u32,
     pub value: u32,
