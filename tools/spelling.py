@@ -51,6 +51,11 @@ def plain(word):
     return re.sub(r"(?<=[a-z0-9])([A-Z])", lambda m: "_" + m.group(1).lower(), w)
 
 
+def ours(path):
+    m = re.match(r"Rattle\.(\w+)\.", path)
+    return m is not None and os.path.isdir(os.path.join(ROOT, "crates", m.group(1)))
+
+
 def comment(line):
     at = re.search(r"(?:^|\s)--(?:\s|$)", line)
     return (line[: at.start()], line[at.start() :]) if at else (line, "")
@@ -98,6 +103,9 @@ def turned(code, turn, fields):
 
 
 def antt(text, turn, fields):
+    # a name that a file imports from a library is the library's
+    theirs = {n.split(" as ")[0] for m in re.finditer(r"^use (\S+)\.\{(.*)\}", text, re.M) if not ours(m.group(1)) for n in m.group(2).split(", ")}
+    turn = {w: t for w, t in turn.items() if w not in theirs}
     out = []
     for line in text.splitlines(keepends=True):
         code, rest = comment(line)

@@ -1,7 +1,7 @@
 -- Cases of this crate's functions: the cursor's code and its colour. Assumes nothing.
 use Prim.Native.Nat.{ℕ, zero, suc, ◌+◌, ◌-◌, ◌*◌, ◌/◌, ◌^◌, ◌≤◌, ◌<◌}
 use mathlib.Core.Path.{◌≡◌, refl, ◌∙◌}
-use mathlib.Core.Bool.{and_false}
+use mathlib.Core.Bool.{and-false}
 use mathlib.Core.List.{List}
 use native.Mathlib.Nat.{pow-suc}
 use native.Mathlib.Omega.{arith}
@@ -35,7 +35,7 @@ module _ (store : List ℕ) where
   code_row_outside (negsuc row) column p = refl
 
   code_column_outside : (row column : ℤ) → 64 ≤ within column → 0 ≡ code_within store row column
-  code_column_outside (pos row) (pos column) p = simp (le-ltb column 64 (omega arith), and_false)
+  code_column_outside (pos row) (pos column) p = simp (le-ltb column 64 (omega arith), and-false)
   code_column_outside (pos row) (negsuc column) p = refl
   code_column_outside (negsuc row) column p = refl
 

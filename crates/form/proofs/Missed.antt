@@ -1,7 +1,7 @@
 -- Where a label has no pixel: a computed test over the table of labels for each part of the picture. Assumes nothing.
 use Prim.Native.Nat.{ℕ, ◌+◌, ◌*◌, ◌-◌, ◌/◌, ◌%◌, ◌^◌, ◌≤◌, ◌<◌}
 use mathlib.Core.Path.{◌≡◌, sym, ◌∙◌}
-use mathlib.Core.Bool.{Bool, true, false, cond, ◌&&◌, ◌||◌, and_false, not-eq-not, true≢false}
+use mathlib.Core.Bool.{Bool, true, false, cond, ◌&&◌, ◌||◌, and-false, not-eq-not, true≢false}
 use mathlib.Core.List.{[], ◌∷◌}
 use mathlib.Core.Logic.{⊎_elim}
 use native.Mathlib.Nat.{zero-div}
@@ -102,4 +102,4 @@ module _ (p : Point) (first end left right top bottom : ℕ) (rule : T (passes (
 
   pub part : first ≤ 29 → end ≤ 29 → ((first ≤ 29) × (end ≤ 29)) × (((k : ℕ) → k < first → labelled p k ≡ false) × ((k : ℕ) → end ≤ k → k < 29 → labelled p k ≡ false))
   part f e =
-      ((f, e), (λ k h. unreached k (omega arith) (rw (lt-leb first k h)), λ k h i. unreached k i (rw (le-ltb k end h) (and_false (leb first k)))))
+      ((f, e), (λ k h. unreached k (omega arith) (rw (lt-leb first k h)), λ k h i. unreached k i (rw (le-ltb k end h) (and-false (leb first k)))))

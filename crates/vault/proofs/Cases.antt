@@ -1,7 +1,7 @@
 -- The turn of the comparison's loop, which keeps: what was found, and what is still to be found, is the whole. Assumes nothing.
 use Prim.Native.Nat.{ℕ, ◌+◌, ◌<◌, ◌≤◌}
 use mathlib.Core.Path.{◌≡◌, sym, ◌∙◌}
-use mathlib.Core.Bool.{Bool, ◌&&◌, and_assoc, and_true}
+use mathlib.Core.Bool.{Bool, ◌&&◌, and_assoc, and-true}
 use mathlib.Core.List.{List}
 use native.Mathlib.Numerals.{add-one}
 use lib.Dec.{eqb}
@@ -17,4 +17,4 @@ looked a b i held whole h k kept = rw (add-one, and_assoc) (rw (drop-cons a i 0 
 -- all were looked at
 pub finished : (a b : List ℕ) (i : ℕ) (held whole : Bool) → length a ≤ i → length b ≤ i → (held && match (drop i a) (drop i b)) ≡ whole → held ≡ whole
 unfolding match
-finished a b i held whole h k kept = sym (and_true held) ∙ (rw (drop_of_length-le a h, drop_of_length-le b k) at kept)
+finished a b i held whole h k kept = sym (and-true held) ∙ (rw (drop_of_length-le a h, drop_of_length-le b k) at kept)

@@ -1,7 +1,7 @@
 -- An ear has no pixel outside its boxes. Assumes nothing.
 use Prim.Native.Nat.{ℕ, zero, suc, ◌+◌, ◌*◌, ◌-◌, ◌≤◌, ◌<◌, min, max}
 use mathlib.Core.Path.{◌≡◌, refl, sym, ◌∙◌}
-use mathlib.Core.Bool.{Bool, true, false, cond, ◌&&◌, ◌||◌, or-false, and_false, not-eq-not, true≢false}
+use mathlib.Core.Bool.{Bool, true, false, cond, ◌&&◌, ◌||◌, or-false, and-false, not-eq-not, true≢false}
 use mathlib.Core.List.{List}
 use mathlib.Core.Logic.{◌⊎◌, ⊎_elim}
 use native.Mathlib.Nat.{add-mul, mul-add, mul_comm, mul-le-mul, mul-le-mul_left}
@@ -167,4 +167,4 @@ module _ (p q : Point) (row : q.y ≡ p.y) (left : p.x ≤ q.x) (right : q.x ≤
       let n = neither_holds (some test 11) (close p (key_of true) (key_of false)) e in
       let none : (k : ℕ) → k < 11 → covered_at side levels q (last_before levels k) k ≡ false = λ k h. far_uncovered side levels k (last_before levels k) h refl ((not-eq-not {a = test k} {b = false}).0 (λ t. true≢false (sym (some_at test 11 k h t) ∙ n.0))) in
       rw (some_none (λ k. covered_at side levels q (last_before levels k) k) 11 none, (not-eq-not {a = mark side q (key_of side)} {b = false}).0 (λ t. true≢false (sym (key_close side t) ∙ n.1)))
-      (and_false (ltb 0 (last_before levels 11)))
+      (and-false (ltb 0 (last_before levels 11)))
