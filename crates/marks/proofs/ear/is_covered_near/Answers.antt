@@ -1,0 +1,10 @@
+-- `marks::ear::is_covered_near` meets its contract: what is not near is not covered. Assumes nothing.
+use mathlib.Core.Path.{refl, sym, ◌∙◌}
+use native.Mathlib.Omega.{arith}
+use Rattle.marks.proofs.ear.Near.{far_uncovered}
+use Rattle.marks.proofs.ear.is_covered_near.Goals as goal
+
+pub returns : goal.returns
+returns c =
+    let a = c.args in
+    record { test = sym (far_uncovered a.p a.p refl (omega arith) (omega arith) a.right a.levels.now a.k a.last (omega arith) c.requires.1 (sym c.is_near_to.ensures.test ∙ c.if-is_near_to.false)) }
