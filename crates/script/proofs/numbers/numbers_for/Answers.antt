@@ -1,0 +1,16 @@
+-- `script::numbers::numbers_for` meets its contract: the tables have an entry for each name, and none is over 81.
+use Rattle.script.proofs.numbers.Cases.{most_bound, numbers_unnamed}
+use Rattle.script.proofs.numbers.numbers_for.Goals as goal
+
+pub numbers_of-requires : goal.numbers_of-requires
+numbers_of-requires c = most_bound _ c.if-name-lt13.true
+
+pub returns-then-name-lt13 : goal.returns-then-name-lt13
+returns-then-name-lt13 c =
+    let rest_of_it = c.Numbers-of.ensures in
+    record { numbers = rest_of_it.0; bound = rest_of_it.1 }
+
+pub returns : goal.returns
+returns c =
+    let e = c.numbers_of-2.ensures in
+    record { numbers = numbers_unnamed _ _ _ c.if-name-lt13.false e.numbers; bound = e.bound }
