@@ -47,8 +47,8 @@ def plain(word):
         return word
     if re.match(r"[A-Z]", word):
         return word
-    w = word.replace("-", "_")
-    return re.sub(r"(?<=[a-z0-9])([A-Z])", lambda m: "_" + m.group(1).lower(), w)
+    w = re.sub(r"V(?=[A-Z])(\w)", lambda m: "V" + m.group(1).lower(), word.replace("-", "_"))
+    return re.sub(r"(?<=[A-Za-z0-9])([A-Z])", r"_\1", w).lower()
 
 
 def ours(path):

@@ -5,13 +5,13 @@ use mathlib.Core.List.{List}
 use mathlib.Core.Path.{◌≡◌, refl, sym, ap, subst, ◌∙◌}
 use native.Mathlib.Nat.{add-zero}
 use native.Mathlib.Omega.{arith}
-use Rattle.units.specs.Parameters.{halves_to_vDisplay}
+use Rattle.units.specs.Parameters.{halves_to_vdisplay}
 use Rattle.registers.specs.declared.Registers.{Registers}
 use Rattle.generator.specs.Rows.{screen}
 use Rattle.generator.specs.Tick.{tick_of}
 use Rattle.generator.specs.Stand.{Runs}
 use Rattle.generator.specs.Sound.{Sound}
-use Rattle.generator.specs.Dark.{field_tick, ticks_to_vDisplay, moved_to}
+use Rattle.generator.specs.Dark.{field_tick, ticks_to_vdisplay, moved_to}
 use Rattle.generator.specs.declared.Generator.{Generator}
 use Rattle.generator.proofs.Kept.{tick_sound}
 use Rattle.generator.proofs.Dark.{moved_from, moved_taken, moved_next}
@@ -27,19 +27,19 @@ pub dark_runs : (runs : Bool) (halves all half : ℕ) → halves ≡ cond runs a
 dark_runs true halves all half e l = (refl, e)
 dark_runs false halves all half e l = absurd (omega arith)
 
-module _ (memory : List ℕ) (m : Machine) (r : Registers) (now : Generator) (z : Sound r now) (k : Runs r now) (early : now.half.0 < halves_to_vDisplay (screen r))
+module _ (memory : List ℕ) (m : Machine) (r : Registers) (now : Generator) (z : Sound r now) (k : Runs r now) (early : now.half.0 < halves_to_vdisplay (screen r))
     (done : ℕ) (e : ◌≡◌ {A = Ran} (record { done = done; refusal = 0; machine = machine_of r now }) (ran_of memory m done)) where
   -- j of them
   pub record Dark (j : ℕ) : Type 0 where
     pub ran : ◌≡◌ {A = Ran} (record { done = done + j; refusal = 0; machine = machine_of r (moved_to (screen r) now (field_tick (screen r) now + j)) }) (ran_of memory m (done + j))
     pub sound : Sound r (moved_to (screen r) now (field_tick (screen r) now + j))
 
-  dark : (j : ℕ) → field_tick (screen r) now + j ≤ ticks_to_vDisplay (screen r) → Dark j
+  dark : (j : ℕ) → field_tick (screen r) now + j ≤ ticks_to_vdisplay (screen r) → Dark j
   dark zero l = record { ran = rw (add-zero, add-zero, ← (moved_from r now k early)) e; sound = rw (add-zero, ← (moved_from r now k early)) z }
   dark (suc j) l =
       let before = dark j (omega arith) in
       let n = field_tick (screen r) now + j in
-      let inside : n < ticks_to_vDisplay (screen r) = omega arith in
+      let inside : n < ticks_to_vdisplay (screen r) = omega arith in
       let number : field_tick (screen r) now + suc j ≡ n + 1 = omega arith in
       let count : done + suc j ≡ done + j + 1 = omega arith in
       let next : moved_to (screen r) now (field_tick (screen r) now + suc j) ≡ (tick_of r memory (moved_to (screen r) now n)).next = rw number (sym (moved_next r now k early memory n inside)) in

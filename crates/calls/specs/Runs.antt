@@ -4,7 +4,7 @@ use Rattle.std.specs.Prelude.{ℕ, ◌+◌, ◌≤◌, ◌<◌, Bool, true, cond
 use Rattle.control.specs.Control.{running}
 use Rattle.units.specs.declared.Screen.{Screen}
 use Rattle.registers.specs.declared.Registers.{Registers}
-use Rattle.generator.specs.Dark.{field_tick, ticks_to_vDisplay, moved_to}
+use Rattle.generator.specs.Dark.{field_tick, ticks_to_vdisplay, moved_to}
 use Rattle.generator.specs.Sound.{Sound}
 use Rattle.generator.specs.declared.Generator.{Generator}
 use Rattle.generator.specs.declared.Went.{Went}
@@ -25,7 +25,7 @@ ran_in r w = record { done = w.done; refusal = w.refusal; machine = machine_of r
 pub record Passes (s : Screen) (g : Generator) (due : ℕ) (p : Passed) : Type 0 where
   pub some : 0 < p.ticks
   pub most : p.ticks ≤ due
-  pub inside : field_tick s g + p.ticks ≤ ticks_to_vDisplay s
+  pub inside : field_tick s g + p.ticks ≤ ticks_to_vdisplay s
   pub moved : p.next ≡ moved_to s g (field_tick s g + p.ticks)
 
 -- up to so many ticks: as many as were done, or with a refused one all of them; fewer, unrefused, only to a frame's start

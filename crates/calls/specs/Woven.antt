@@ -1,6 +1,6 @@
 -- An interlaced picture woven for a file (02, Q-4): where the pixels of its ticks stand. Assumes nothing.
 use Rattle.std.specs.Prelude.{ℕ, ◌+◌, ◌-◌, ◌*◌, ◌/◌, ◌%◌, ◌≤◌, ◌<◌, Bool, true, false, cond, List, ◌≡◌, get_or}
-use Rattle.units.specs.Parameters.{in_field, halves_to_vDisplay}
+use Rattle.units.specs.Parameters.{in_field, halves_to_vdisplay}
 use Rattle.lines.specs.Lines.{second_half}
 use Rattle.registers.specs.declared.Registers.{Registers}
 use Rattle.generator.specs.Rows.{screen}
@@ -30,7 +30,7 @@ tube_at r second i =
 -- the first field begins with a first half and the second with a second half; the weave has Display's pixels in a line and VDisplay lines, and the
 -- pixels of both fields, and 49,140 bytes hold a row; each pixel of the ticks stands where a tube shows it, once, and its three bytes there
 pub record Woven (r : Registers) (w : Weave) : Type 0 where
-  pub halves : (second : Bool) → second_half (in_field second (screen r)) (halves_to_vDisplay (screen r)) ≡ second
+  pub halves : (second : Bool) → second_half (in_field second (screen r)) (halves_to_vdisplay (screen r)) ≡ second
   pub weave : is_weave w ≡ true
   pub some : 0 < w.half
   pub width : w.width ≡ 4 * (screen r).display.0

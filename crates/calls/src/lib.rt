@@ -3,7 +3,7 @@
 
 ghost use Rattle.std.specs.Prelude.{◌≡◌, cond, ◌<◌, min};
 ghost use Rattle.control.specs.Control.{running};
-ghost use Rattle.units.specs.Parameters.{halves_to_vDisplay};
+ghost use Rattle.units.specs.Parameters.{halves_to_vdisplay};
 ghost use Rattle.generator.specs.Rows.{screen};
 ghost use Rattle.generator.specs.Sound.{Sound};
 ghost use Rattle.generator.specs.Stand.{Runs};
@@ -54,7 +54,7 @@ pub fn write(m: Machine, address: u32, value: u32) -> Written
 
 // The half lines before VDisplay, of a screen that runs.
 fn dark_halves(n: Numbers) -> u64
-    ensures halves { result ≡ cond (running n.control) (halves_to_vDisplay (screen (bare n))) 0 }
+    ensures halves { result ≡ cond (running n.control) (halves_to_vdisplay (screen (bare n))) 0 }
 {
     let params = n.params;
     let interlaced = control::is_interlaced(n.control);
@@ -81,7 +81,7 @@ struct Passed {
 // Ticks before VDisplay, as many as are due and no further than its first: nothing shows there, and only the place moves.
 fn pass_dark(n: Numbers, g: Generator, halves: u64, due: u32) -> Passed
     requires runs { Runs (bare n) g }
-    requires halves_value { (halves ≡ halves_to_vDisplay (screen (bare n))) × (g.half.0 < halves) × (0 < due) }
+    requires halves_value { (halves ≡ halves_to_vdisplay (screen (bare n))) × (g.half.0 < halves) × (0 < due) }
     ensures ticks { Passes (screen (bare n)) g due result }
 {
     let params = n.params;

@@ -11,7 +11,7 @@ use lib.ListN.{length, get_or}
 use Rattle.base.specs.Count.{run}
 use Rattle.base.proofs.Bools.{below}
 use Rattle.control.specs.Control.{running}
-use Rattle.units.specs.Parameters.{half_ticks, halves_to_vDisplay, halves_in_field, screen_of}
+use Rattle.units.specs.Parameters.{half_ticks, halves_to_vdisplay, halves_in_field, screen_of}
 use Rattle.screen.specs.Totals.{frame_ticks}
 use Rattle.lines.specs.Lines.{opens, next_half, next_at}
 use Rattle.lines.proofs.Moments.{in_vdisplay}
@@ -131,28 +131,28 @@ module _ (d half at : ℕ) where
 
 -- ---- what has been seen of a machine
 
-abbrev to_vDisplay : Machine → ℕ
-to_vDisplay m = halves_to_vDisplay (screen m.regs)
+abbrev to_vdisplay : Machine → ℕ
+to_vdisplay m = halves_to_vdisplay (screen m.regs)
 
 -- the checksums are those of the colours seen; and a running machine that is past its field's beginning had FrameInactive high at its last tick
 -- exactly if the next one lies before VDisplay or is its first
 pub record Followed (w : Watched) (m : Machine) : Type 0 where
   pub sums : m.generator.sums ≡ summed none w.colours
   pub narrow : Narrow w.colours
-  pub level : runs m ≡ true → (half_now m ≡ 0 → at_now m ≡ 0 → ⊥) → w.high ≡ waits (to_vDisplay m) (half_now m) (at_now m)
+  pub level : runs m ≡ true → (half_now m ≡ 0 → at_now m ≡ 0 → ⊥) → w.high ≡ waits (to_vdisplay m) (half_now m) (at_now m)
 
 -- ---- one tick
 
 module _ (w : Watched) (m : Machine) (memory : List ℕ) (z : SoundMachine m) (f : Followed w m) where
   module _ (b : ByTheRules m memory) (on : runs m ≡ true) where
-    inactive_is : (out m memory).inactive ≡ not (leb (to_vDisplay m) (half_now m))
+    inactive_is : (out m memory).inactive ≡ not (leb (to_vdisplay m) (half_now m))
     inactive_is = b.frame_inactive ∙ ap not (sym (in_vdisplay _ (half_now m)))
 
-    vdisplay_some : 0 < to_vDisplay m
+    vdisplay_some : 0 < to_vdisplay m
     vdisplay_some = omega (arith, (z.accepted on).bounded.vpreequalise.low)
 
-    first_is : is_first w (out m memory) ≡ (eqb (half_now m) (to_vDisplay m) && eqb (at_now m) 0)
-    first_is = rw inactive_is (falls_first (to_vDisplay m) (half_now m) (at_now m) vdisplay_some w.high (f.level on))
+    first_is : is_first w (out m memory) ≡ (eqb (half_now m) (to_vdisplay m) && eqb (at_now m) 0)
+    first_is = rw inactive_is (falls_first (to_vdisplay m) (half_now m) (at_now m) vdisplay_some w.high (f.level on))
 
     begun_sums : cleared_now m ≡ summed none (begun w (out m memory))
     unfolding opens summed
@@ -189,14 +189,14 @@ module _ (w : Watched) (m : Machine) (memory : List ℕ) (z : SoundMachine m) (f
 
     -- the level that a tick leaves is right for the next
     level_on : (half_now (advanced m memory).machine ≡ 0 → at_now (advanced m memory).machine ≡ 0 → ⊥) →
-        (out m memory).inactive ≡ waits (to_vDisplay m) (half_now (advanced m memory).machine) (at_now (advanced m memory).machine)
+        (out m memory).inactive ≡ waits (to_vdisplay m) (half_now (advanced m memory).machine) (at_now (advanced m memory).machine)
     unfolding next_half next_at
     level_on past = inactive_is ∙ rw (b.half, b.at) (go (ltb (at_now m + 1) (half_ticks (screen m.regs))) refl (ltb (half_now m + 1) (halves_in_field (screen m.regs))) refl)
       where
         go : (t : Bool) → ltb (at_now m + 1) (half_ticks (screen m.regs)) ≡ t → (u : Bool) → ltb (half_now m + 1) (halves_in_field (screen m.regs)) ≡ u →
-            not (leb (to_vDisplay m) (half_now m)) ≡ waits (to_vDisplay m) (cond t (half_now m) (cond u (half_now m + 1) 0)) (cond t (at_now m + 1) 0)
-        go true e u c = waits_in (to_vDisplay m) (half_now m) (at_now m)
-        go false e true c = waits_on (to_vDisplay m) (half_now m) (at_now m)
+            not (leb (to_vdisplay m) (half_now m)) ≡ waits (to_vdisplay m) (cond t (half_now m) (cond u (half_now m + 1) 0)) (cond t (at_now m + 1) 0)
+        go true e u c = waits_in (to_vdisplay m) (half_now m) (at_now m)
+        go false e true c = waits_on (to_vdisplay m) (half_now m) (at_now m)
         go false e false c = absurd (past (b.half ∙ simp (e, c)) (b.at ∙ simp e))
 
   tick_answered : (advanced m memory).refusal ≡ 0 → Followed (seen w (out m memory)) (advanced m memory).machine

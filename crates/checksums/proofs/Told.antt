@@ -11,7 +11,7 @@ use Rattle.base.specs.Count.{run}
 use Rattle.vault.specs.Nine.{nine_bytes}
 use Rattle.vault.proofs.Laws.{word_injective, nine_injective}
 use Rattle.registers.specs.Map.{place_of}
-use Rattle.lines.specs.Lines.{period, is_vDisplay}
+use Rattle.lines.specs.Lines.{period, is_vdisplay}
 use Rattle.signals.specs.declared.Signals.{Signals}
 use Rattle.pixel.specs.Sums.{none, summed}
 use Rattle.pixel.specs.declared.Sums.{Sums}
@@ -39,10 +39,10 @@ use Rattle.checksums.proofs.Followed.{Followed, narrow_at, calls_followed, begin
 
 module _ (m : Machine) (z : SoundMachine m) (back : in_flyback m ≡ true) where
   -- a tick with FrameInactive high does not lie in VDisplay
-  high_past : (advanced m []).signals.inactive ≡ true → is_vDisplay (period (field_at m.regs m.generator) m.generator.half.0) ≡ false
+  high_past : (advanced m []).signals.inactive ≡ true → is_vdisplay (period (field_at m.regs m.generator) m.generator.half.0) ≡ false
   high_past high = go (eqb (advanced m []).refusal 0) refl
     where
-      go : (t : Bool) → eqb (advanced m []).refusal 0 ≡ t → is_vDisplay (period (field_at m.regs m.generator) m.generator.half.0) ≡ false
+      go : (t : Bool) → eqb (advanced m []).refusal 0 ≡ t → is_vdisplay (period (field_at m.regs m.generator) m.generator.half.0) ≡ false
       go true e = not-true _ (sym (by_the_rules m [] (eqb-true _ 0 e) z).frame_inactive ∙ high)
       go false e = absurd (true≢false (sym high ∙ ap (λ (s : Signals). s.inactive) (tick_refused_same m [] (eqb-false _ 0 e)).1))
 

@@ -9,7 +9,7 @@ use Rattle.signals.specs.Signals.{black, colours_of}
 use Rattle.signals.specs.declared.Signals.{Signals}
 use Rattle.pixel.specs.Sums.{cleared_at, summed}
 use Rattle.pixel.specs.declared.Sums.{Sums}
-use Rattle.lines.specs.Lines.{period, is_vSync, is_vDisplay, sync_low, visible, opens, closes, next_second, next_half, next_at, tick_number, field_visible}
+use Rattle.lines.specs.Lines.{period, is_vsync, is_vdisplay, sync_low, visible, opens, closes, next_second, next_half, next_at, tick_number, field_visible}
 use Rattle.generator.specs.Rows.{field_at, held_address, leads}
 use Rattle.generator.specs.Sound.{Placed}
 use Rattle.generator.specs.Tick.{dot_of}
@@ -56,8 +56,8 @@ cleared_now m = cleared_at (opens (screen_now m) (half_now m) (at_now m)) m.gene
 pub record ByTheRules (m : Machine) (memory : List ℕ) : Type 0 where
   -- true is high
   pub sync : (out m memory).sync ≡ not (sync_low (screen_now m) (plain m.regs.control) (half_now m) (at_now m))
-  pub vertical_sync : (out m memory).vsync ≡ not (is_vSync (period (screen_now m) (half_now m)))
-  pub frame_inactive : (out m memory).inactive ≡ not (is_vDisplay (period (screen_now m) (half_now m)))
+  pub vertical_sync : (out m memory).vsync ≡ not (is_vsync (period (screen_now m) (half_now m)))
+  pub frame_inactive : (out m memory).inactive ≡ not (is_vdisplay (period (screen_now m) (half_now m)))
   -- a tick is blank unless visible and not forced blank
   pub blank : (out m memory).blank ≡ not (visible_now m && not (forced_blank m.regs.control))
   -- with transfers off the request stays low

@@ -5,7 +5,7 @@ use mathlib.Core.Logic.{◌⊎◌, ⊎_elim}
 use mathlib.Core.Path.{◌≡◌, sym, ◌∙◌}
 use native.Mathlib.Nat.{mul-le-mul_right, mul-pos, zero-mul}
 use native.Mathlib.Omega.{arith}
-use Rattle.units.specs.Parameters.{half_ticks, halves_to_vDisplay, halves_in_field, field_ticks, row_length}
+use Rattle.units.specs.Parameters.{half_ticks, halves_to_vdisplay, halves_in_field, field_ticks, row_length}
 use Rattle.screen.specs.Limits.{Accepted}
 use Rattle.units.specs.declared.Screen.{Screen}
 use Rattle.screen.proofs.limits.Laws.{narrow}
@@ -15,7 +15,7 @@ use Rattle.lines.specs.Lines.{visible, tick_number, visible_before, field_visibl
 use Rattle.generator.specs.Rows.{screen, field_at}
 use Rattle.generator.specs.Tick.{step_with}
 use Rattle.generator.specs.Sound.{Placed}
-use Rattle.generator.specs.Dark.{ticks_to_vDisplay}
+use Rattle.generator.specs.Dark.{ticks_to_vdisplay}
 use Rattle.generator.specs.declared.Generator.{Generator}
 use Rattle.generator.proofs.VisibleBefore.{dark, visible_next, visible_none, visible_opens, field_visible_lem}
 use Rattle.generator.proofs.Rows.{row_some}
@@ -78,7 +78,7 @@ module _ (control : ℕ) (s : Screen) (ok : Accepted control s) where
       pub end_half : halves_in_field s ≤ h + 1
       end_half = last_half s h u a.placed.half_in a.placed.at_in (omega (arith, a.number))
 
-      in_display_lem : halves_to_vDisplay s ≤ h
+      in_display_lem : halves_to_vdisplay s ≤ h
       in_display_lem = omega (arith, end_half, ok.bounded.vdisplay.low)
 
       -- past it all visible ones are counted
@@ -87,33 +87,33 @@ module _ (control : ℕ) (s : Screen) (ok : Accepted control s) where
           let last : tick_number s h u + 1 ≡ field_ticks s = omega (arith, a.number) in
           rw a.placed.seen_is (sym (visible_next control s ok h u a.placed.at_in) ∙ rw last (field_visible_lem control s ok))
 
-      pub end_past : ticks_to_vDisplay s ≤ n
+      pub end_past : ticks_to_vdisplay s ≤ n
       end_past = omega (arith, mul-le-mul_right (half_ticks s) in_display_lem, a.number)
 
     -- a visible tick lies in VDisplay
-    pub lit_past : visible s h u ≡ true → ticks_to_vDisplay s ≤ n
+    pub lit_past : visible s h u ≡ true → ticks_to_vdisplay s ≤ n
     lit_past v =
         ⊎_elim
-        (λ (p : h < halves_to_vDisplay s). let z : true ≡ false = sym v ∙ dark s h u p in absurd (let y : ◌≡◌ {A = ℕ} 0 1 = cc in omega arith))
-        (λ (p : halves_to_vDisplay s ≤ h). omega (arith, mul-le-mul_right (half_ticks s) p, a.number))
-        (below h (halves_to_vDisplay s))
+        (λ (p : h < halves_to_vdisplay s). let z : true ≡ false = sym v ∙ dark s h u p in absurd (let y : ◌≡◌ {A = ℕ} 0 1 = cc in omega arith))
+        (λ (p : halves_to_vdisplay s ≤ h). omega (arith, mul-le-mul_right (half_ticks s) p, a.number))
+        (below h (halves_to_vdisplay s))
 
     -- the first tick of VDisplay has nothing before it
-    pub first_seen : h ≡ halves_to_vDisplay s → u ≡ 0 → g.seen.0 ≡ 0
+    pub first_seen : h ≡ halves_to_vdisplay s → u ≡ 0 → g.seen.0 ≡ 0
     first_seen p q = a.placed.seen_is ∙ rw (p, q) (visible_opens control s ok)
 
     -- and every other tick from there on a greater number
-    pub first_only : (h ≡ halves_to_vDisplay s → ⊥) ⊎ (u ≡ 0 → ⊥) → ticks_to_vDisplay s ≤ n → ticks_to_vDisplay s < n
+    pub first_only : (h ≡ halves_to_vdisplay s → ⊥) ⊎ (u ≡ 0 → ⊥) → ticks_to_vdisplay s ≤ n → ticks_to_vdisplay s < n
     first_only other z =
         ⊎_elim
-        (λ (p : h < halves_to_vDisplay s). absurd (omega (arith, mul-le-mul_right (half_ticks s) p, a.number, a.placed.at_in)))
-        (λ (p : halves_to_vDisplay s ≤ h). ⊎_elim (off p) (λ k. omega (arith, mul-le-mul_right (half_ticks s) p, a.number, some_at k)) other)
-        (below h (halves_to_vDisplay s))
+        (λ (p : h < halves_to_vdisplay s). absurd (omega (arith, mul-le-mul_right (half_ticks s) p, a.number, a.placed.at_in)))
+        (λ (p : halves_to_vdisplay s ≤ h). ⊎_elim (off p) (λ k. omega (arith, mul-le-mul_right (half_ticks s) p, a.number, some_at k)) other)
+        (below h (halves_to_vdisplay s))
       where
         some_at : (u ≡ 0 → ⊥) → 0 < u
         some_at k = omega arith
 
-        off : halves_to_vDisplay s ≤ h → (h ≡ halves_to_vDisplay s → ⊥) → ticks_to_vDisplay s < n
+        off : halves_to_vdisplay s ≤ h → (h ≡ halves_to_vdisplay s → ⊥) → ticks_to_vdisplay s < n
         off p k =
-            let q : halves_to_vDisplay s + 1 ≤ h = omega arith in
+            let q : halves_to_vdisplay s + 1 ≤ h = omega arith in
             omega (arith, mul-le-mul_right (half_ticks s) q, a.number, ok.half_holds)

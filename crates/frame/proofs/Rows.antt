@@ -12,7 +12,7 @@ use Rattle.base.specs.Sum.{rolled}
 use Rattle.base.specs.Count.{some, run}
 use Rattle.base.proofs.Run.{run_append, run_same}
 use Rattle.control.specs.Control.{forced_blank, transferring, increment, pixel_bits}
-use Rattle.units.specs.Parameters.{halves_to_vDisplay, row_length}
+use Rattle.units.specs.Parameters.{halves_to_vdisplay, row_length}
 use Rattle.screen.specs.Limits.{Accepted}
 use Rattle.screen.proofs.limits.Laws.{accepted_in}
 use Rattle.registers.specs.declared.Registers.{Registers}
@@ -23,7 +23,7 @@ use Rattle.pixel.proofs.Laws.{summed_join}
 use Rattle.lines.specs.Lines.{opens}
 use Rattle.generator.specs.Rows.{screen, field_at, visible_at, shows, top_used, taken, transfer_at, held_address, place}
 use Rattle.generator.specs.Tick.{dot_of, dots, refuses20, cleared, sums_after, seen_after}
-use Rattle.generator.specs.Dark.{ticks_to_vDisplay}
+use Rattle.generator.specs.Dark.{ticks_to_vdisplay}
 use Rattle.generator.specs.declared.Generator.{Generator}
 use Rattle.frame.specs.Frame.{row_address, address_at, place_at, dot_for, sums_to}
 use Rattle.frame.proofs.Some.{some_same, some_four, some_and}
@@ -96,23 +96,23 @@ module _ (r : Registers) (f : Bool) (ok : Accepted r.control (screen r)) (fits :
 
     opens_seen : O ≡ true → g.seen.0 ≡ 0
     unfolding opens
-    opens_seen p = go (eqb g.half.0 (halves_to_vDisplay (screen r))) refl (eqb g.at.0 0) refl p
+    opens_seen p = go (eqb g.half.0 (halves_to_vdisplay (screen r))) refl (eqb g.at.0 0) refl p
       where
-        go : (x : Bool) → eqb g.half.0 (halves_to_vDisplay (screen r)) ≡ x → (y : Bool) → eqb g.at.0 0 ≡ y → (x && y) ≡ true → g.seen.0 ≡ 0
-        go true ex true ey z = first_seen r.control (field_at r g) (accepted_in (screen r) g.second ok) n g a (eqb-true g.half.0 (halves_to_vDisplay (screen r)) ex) (eqb-true g.at.0 0 ey)
+        go : (x : Bool) → eqb g.half.0 (halves_to_vdisplay (screen r)) ≡ x → (y : Bool) → eqb g.at.0 0 ≡ y → (x && y) ≡ true → g.seen.0 ≡ 0
+        go true ex true ey z = first_seen r.control (field_at r g) (accepted_in (screen r) g.second ok) n g a (eqb-true g.half.0 (halves_to_vdisplay (screen r)) ex) (eqb-true g.at.0 0 ey)
         go true ex false ey z = absurd (true≢false (sym z))
         go false ex y ey z = absurd (true≢false (sym z))
 
-    opens_past : O ≡ false → ticks_to_vDisplay (screen r) ≤ n → ticks_to_vDisplay (screen r) < n
+    opens_past : O ≡ false → ticks_to_vdisplay (screen r) ≤ n → ticks_to_vdisplay (screen r) < n
     unfolding opens
-    opens_past p = go (eqb g.half.0 (halves_to_vDisplay (screen r))) refl (eqb g.at.0 0) refl p
+    opens_past p = go (eqb g.half.0 (halves_to_vdisplay (screen r))) refl (eqb g.at.0 0) refl p
       where
-        go : (x : Bool) → eqb g.half.0 (halves_to_vDisplay (screen r)) ≡ x → (y : Bool) → eqb g.at.0 0 ≡ y → (x && y) ≡ false → ticks_to_vDisplay (screen r) ≤ n → ticks_to_vDisplay (screen r) < n
-        go false ex y ey z = first_only r.control (field_at r g) (accepted_in (screen r) g.second ok) n g a (◌⊎◌.inl (eqb-false g.half.0 (halves_to_vDisplay (screen r)) ex))
+        go : (x : Bool) → eqb g.half.0 (halves_to_vdisplay (screen r)) ≡ x → (y : Bool) → eqb g.at.0 0 ≡ y → (x && y) ≡ false → ticks_to_vdisplay (screen r) ≤ n → ticks_to_vdisplay (screen r) < n
+        go false ex y ey z = first_only r.control (field_at r g) (accepted_in (screen r) g.second ok) n g a (◌⊎◌.inl (eqb-false g.half.0 (halves_to_vdisplay (screen r)) ex))
         go true ex false ey z = first_only r.control (field_at r g) (accepted_in (screen r) g.second ok) n g a (◌⊎◌.inr (eqb-false g.at.0 0 ey))
         go true ex true ey z = absurd (true≢false z)
 
-    pub taken_row : (ticks_to_vDisplay (screen r) < n → g.held ≡ row_address r f ((g.seen.0 - 1) / R)) → ticks_to_vDisplay (screen r) ≤ n → taken r g ≡ row_address r f ((g.seen.0 - 1) / R)
+    pub taken_row : (ticks_to_vdisplay (screen r) < n → g.held ≡ row_address r f ((g.seen.0 - 1) / R)) → ticks_to_vdisplay (screen r) ≤ n → taken r g ≡ row_address r f ((g.seen.0 - 1) / R)
     unfolding taken
     taken_row h p = go O refl
       where
@@ -130,7 +130,7 @@ module _ (r : Registers) (f : Bool) (ok : Accepted r.control (screen r)) (fits :
     unfolding sums_to run summed
     none_first m = none_either (forced_blank r.control)
 
-    pub cleared_row : (m : List ℕ) → (ticks_to_vDisplay (screen r) < n → g.sums ≡ sums_to r f m g.seen.0) → ticks_to_vDisplay (screen r) ≤ n → cleared r g ≡ sums_to r f m g.seen.0
+    pub cleared_row : (m : List ℕ) → (ticks_to_vdisplay (screen r) < n → g.sums ≡ sums_to r f m g.seen.0) → ticks_to_vdisplay (screen r) ≤ n → cleared r g ≡ sums_to r f m g.seen.0
     unfolding cleared
     cleared_row m h p = go O refl
       where

@@ -20,7 +20,7 @@ use Rattle.registers.specs.declared.Registers.{Registers}
 use Rattle.lines.specs.Lines.{closes, next_second}
 use Rattle.generator.specs.Rows.{screen, field_at, visible_at, top_used, taken, held_address, asks}
 use Rattle.generator.specs.Tick.{dots, refuses20, sums_after, seen_after, step_with, step, signals_with, tick_refusal, tick_of, after}
-use Rattle.generator.specs.Dark.{ticks_to_vDisplay}
+use Rattle.generator.specs.Dark.{ticks_to_vdisplay}
 use Rattle.generator.specs.Sound.{Sound, Placed}
 use Rattle.generator.specs.declared.Generator.{Generator}
 use Rattle.generator.proofs.FirstVisible.{first_field_some}
@@ -50,8 +50,8 @@ steps r m g (suc n) = step r m (steps r m g n)
 pub record Before (r : Registers) (m : List ℕ) (f a : Bool) (n : ℕ) (g : Generator) : Type 0 where
   pub at : AtTick (field_at r g) n g
   pub field : g.second ≡ f
-  pub held : ticks_to_vDisplay (screen r) < n → g.held ≡ row_address r f ((g.seen.0 - 1) / row_length (screen r))
-  pub sums : ticks_to_vDisplay (screen r) < n → g.sums ≡ sums_to r f m g.seen.0
+  pub held : ticks_to_vdisplay (screen r) < n → g.held ≡ row_address r f ((g.seen.0 - 1) / row_length (screen r))
+  pub sums : ticks_to_vdisplay (screen r) < n → g.sums ≡ sums_to r f m g.seen.0
   pub asked : g.asked ≡ cond (ltb 0 g.seen.0) (asks r.control (screen r) (g.seen.0 - 1)) a
 
 module _ (r : Registers) (m : List ℕ) (f a : Bool) (runs : running r.control ≡ true) (ok : Accepted r.control (screen r)) (fits : top_used r f ≤ 0xFFFFFF) where
@@ -69,20 +69,20 @@ module _ (r : Registers) (m : List ℕ) (f a : Bool) (runs : running r.control �
     okay : Accepted r.control (field_at r g)
     okay = accepted_in S g.second ok
 
-    past : visible_at r g ≡ true → ticks_to_vDisplay S ≤ n
+    past : visible_at r g ≡ true → ticks_to_vdisplay S ≤ n
     unfolding visible_at
     past l = lit_past r.control (field_at r g) okay n g i.at l
 
-    row : ticks_to_vDisplay S ≤ n → taken r g ≡ row_address r f ((g.seen.0 - 1) / row_length S)
+    row : ticks_to_vdisplay S ≤ n → taken r g ≡ row_address r f ((g.seen.0 - 1) / row_length S)
     row p = taken_row r f ok fits n g i.at i.field i.held p
 
     pub row_lit : visible_at r g ≡ true → held_address r g ≡ address_at r f g.seen.0
     row_lit l = held_lit r f ok fits g (row (past l)) l
 
-    row_on : ticks_to_vDisplay S ≤ n → held_address r g ≡ row_address r f ((seen_after r g - 1) / row_length S)
+    row_on : ticks_to_vdisplay S ≤ n → held_address r g ≡ row_address r f ((seen_after r g - 1) / row_length S)
     row_on p = held_row r f ok fits g (row p)
 
-    sums_on : ticks_to_vDisplay S ≤ n → sums_after r m g ≡ sums_to r f m (seen_after r g)
+    sums_on : ticks_to_vdisplay S ≤ n → sums_after r m g ≡ sums_to r f m (seen_after r g)
     sums_on p = sums_row r f m g i.field row_lit (cleared_row r f ok fits n g i.at i.field m i.sums p)
 
     asked_on : cond (visible_at r g) (asks r.control S g.seen.0) g.asked ≡ cond (ltb 0 (seen_after r g)) (asks r.control S (seen_after r g - 1)) a

@@ -6,7 +6,7 @@ use mathlib.Core.Path.{◌≡◌, refl, sym, ap, ◌∙◌}
 use native.Mathlib.Nat.{mod-lt, div-lt_iff_lt-mul, div-add-mod'}
 use native.Mathlib.Omega.{arith}
 use borrow.Author.Tests.{ne_eqb}
-use Rattle.units.specs.Parameters.{half_ticks, halves_to_vDisplay, halves_in_field}
+use Rattle.units.specs.Parameters.{half_ticks, halves_to_vdisplay, halves_in_field}
 use Rattle.screen.proofs.limits.Laws.{accepted_in}
 use Rattle.registers.specs.declared.Registers.{Registers}
 use Rattle.pixel.specs.declared.Sums.{Sums}
@@ -14,12 +14,12 @@ use Rattle.lines.specs.Lines.{opens, closes, next_half, next_at, tick_number}
 use Rattle.generator.specs.Rows.{screen, field_at, visible_at, shows, taken, transfer_at, held_address}
 use Rattle.generator.specs.Tick.{refuses20, cleared, sums_after, seen_after, step_with, tick_refusal, tick_of}
 use Rattle.generator.specs.Stand.{Runs}
-use Rattle.generator.specs.Dark.{field_tick, ticks_to_vDisplay, moved_to}
+use Rattle.generator.specs.Dark.{field_tick, ticks_to_vdisplay, moved_to}
 use Rattle.generator.specs.declared.Generator.{Generator}
 use Rattle.generator.proofs.VisibleBefore.{dark, number_half, number_at, visible_none}
 use Rattle.generator.proofs.Kept.{Next, next, line_open, same_field}
 
-module _ (r : Registers) (m : List ℕ) (g : Generator) (k : Runs r g) (early : g.half.0 < halves_to_vDisplay (field_at r g)) where
+module _ (r : Registers) (m : List ℕ) (g : Generator) (k : Runs r g) (early : g.half.0 < halves_to_vdisplay (field_at r g)) where
   unseen : visible_at r g ≡ false
   unfolding visible_at
   unseen = dark (field_at r g) g.half.0 g.at.0 early
@@ -30,7 +30,7 @@ module _ (r : Registers) (m : List ℕ) (g : Generator) (k : Runs r g) (early : 
 
   unopened : opens (field_at r g) g.half.0 g.at.0 ≡ false
   unfolding opens
-  unopened = simp (ne_eqb g.half.0 (halves_to_vDisplay (field_at r g)) (λ e. omega arith))
+  unopened = simp (ne_eqb g.half.0 (halves_to_vdisplay (field_at r g)) (λ e. omega arith))
 
   goes_on : closes (field_at r g) g.half.0 g.at.0 ≡ false
   goes_on = line_open (field_at r g) g.half.0 g.at.0 (omega (arith, k.accepted.bounded.vdisplay.low))
@@ -65,17 +65,17 @@ module _ (r : Registers) (m : List ℕ) (g : Generator) (k : Runs r g) (early : 
   dark_next = simp (k.runs, unshown, goes_on, unseen, held_kept, sums_kept, same_field (field_at r g) g.half.0 g.at.0 goes_on, half_on, at_on)
 
 -- and of a generator moved to any such place
-module _ (r : Registers) (g : Generator) (k : Runs r g) (early : g.half.0 < halves_to_vDisplay (field_at r g)) where
+module _ (r : Registers) (g : Generator) (k : Runs r g) (early : g.half.0 < halves_to_vdisplay (field_at r g)) where
   some_ticks : 0 < half_ticks (field_at r g)
   some_ticks = omega (arith, k.accepted.half_holds)
 
-  moved_early : (n : ℕ) → n < ticks_to_vDisplay (field_at r g) → n / half_ticks (field_at r g) < halves_to_vDisplay (field_at r g)
+  moved_early : (n : ℕ) → n < ticks_to_vdisplay (field_at r g) → n / half_ticks (field_at r g) < halves_to_vdisplay (field_at r g)
   moved_early n l = (div-lt_iff_lt-mul {k = half_ticks (field_at r g)} some_ticks).1 l
 
   none_seen : g.seen.0 ≡ 0
   none_seen = k.placed.seen_is ∙ visible_none r.control (field_at r g) (accepted_in (screen r) g.second k.accepted) g.half.0 g.at.0 k.placed.at_in early
 
-  moved_runs : (n : ℕ) → n < ticks_to_vDisplay (field_at r g) → Runs r (moved_to (field_at r g) g n)
+  moved_runs : (n : ℕ) → n < ticks_to_vdisplay (field_at r g) → Runs r (moved_to (field_at r g) g n)
   moved_runs n l =
       record {
         runs = k.runs;
@@ -94,7 +94,7 @@ module _ (r : Registers) (g : Generator) (k : Runs r g) (early : g.half.0 < halv
   pub moved_from : g ≡ moved_to (field_at r g) g (field_tick (field_at r g) g)
   moved_from = rw (number_half g.half.0 g.at.0 (half_ticks (field_at r g)) k.placed.at_in, number_at g.half.0 g.at.0 (half_ticks (field_at r g)) k.placed.at_in)
 
-  module _ (m : List ℕ) (n : ℕ) (l : n < ticks_to_vDisplay (field_at r g)) where
+  module _ (m : List ℕ) (n : ℕ) (l : n < ticks_to_vdisplay (field_at r g)) where
     pub moved_taken : (tick_of r m (moved_to (field_at r g) g n)).refusal ≡ 0
     moved_taken = dark_taken r m (moved_to (field_at r g) g n) (moved_runs n l) (moved_early n l)
 

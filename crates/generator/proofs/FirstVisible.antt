@@ -7,7 +7,7 @@ use native.Mathlib.Nat.{mul-le-mul_right, mul_comm, zero-mul, one-mul, add-zero}
 use native.Mathlib.Omega.{arith}
 use borrow.Author.Tests.{ltb-true, leb-true, lt-ltb, le-ltb, le-leb, lt-leb, eq-eqb, ne_eqb}
 use lib.Dec.{ltb, leb, eqb}
-use Rattle.units.specs.Parameters.{in_field, half_ticks, display_from, halves_to_vDisplay, halves_in_field, field_ticks}
+use Rattle.units.specs.Parameters.{in_field, half_ticks, display_from, halves_to_vdisplay, halves_in_field, field_ticks}
 use Rattle.screen.specs.Limits.{Accepted}
 use Rattle.screen.proofs.limits.Laws.{accepted_in}
 use Rattle.units.specs.declared.Screen.{Screen}
@@ -23,7 +23,7 @@ module _ (control : ℕ) (s : Screen) (ok : Accepted control s) where
   from_in = omega (arith, ok.half_holds)
 
   abbrev start : ℕ
-  start = halves_to_vDisplay s
+  start = halves_to_vdisplay s
 
   -- a place that is visible and has none before it, whose number is the first's
   record First : Type 0 where
@@ -159,7 +159,7 @@ first_field_some control s ok =
     let t = in_field false s in
     let k = accepted_in s false ok in
     let bare = first_lead control s ok s.interlaced refl in
-    let early : first_visible t ≡ tick_number s (halves_to_vDisplay s) 0 + display_from s = simp bare in
-    let last : halves_to_vDisplay s + 1 ≤ halves_in_field s = omega (arith, ok.bounded.vdisplay.low) in
+    let early : first_visible t ≡ tick_number s (halves_to_vdisplay s) 0 + display_from s = simp bare in
+    let last : halves_to_vdisplay s + 1 ≤ halves_in_field s = omega (arith, ok.bounded.vdisplay.low) in
     rw (← (field_visible_lem control t k))
     (some_from_first control t k (field_ticks s) (omega (arith, early, mul_comm (half_ticks s) (halves_in_field s), mul-le-mul_right (half_ticks s) last, ok.half_holds)))

@@ -4,7 +4,7 @@ use Rattle.std.specs.Prelude.{Bool, false, not, ◌&&◌, eqb}
 use Rattle.control.specs.Control.{running}
 use Rattle.registers.specs.declared.Registers.{Registers}
 use Rattle.pixel.specs.Sums.{none}
-use Rattle.lines.specs.Lines.{period, is_vDisplay}
+use Rattle.lines.specs.Lines.{period, is_vdisplay}
 use Rattle.generator.specs.Rows.{field_at}
 use Rattle.generator.specs.declared.Generator.{Generator}
 
@@ -27,4 +27,4 @@ is_start g = not g.second && (eqb g.half.0 0 && eqb g.at.0 0)
 
 -- running, and the next tick not in flyback: it lies in VDisplay of either field
 unfoldable pub displaying : Registers → Generator → Bool
-displaying r g = running r.control && is_vDisplay (period (field_at r g) g.half.0)
+displaying r g = running r.control && is_vdisplay (period (field_at r g) g.half.0)

@@ -11,7 +11,7 @@ use Rattle.memory.specs.Memory.{ends_beyond}
 use Rattle.pixel.specs.Dot.{dot_at}
 use Rattle.pixel.specs.Sums.{cleared_at, summed_where}
 use Rattle.pixel.specs.declared.Sums.{Sums}
-use Rattle.lines.specs.Lines.{period, is_vSync, is_vDisplay, sync_low, lead, opens, closes, next_second, next_half, next_at}
+use Rattle.lines.specs.Lines.{period, is_vsync, is_vdisplay, sync_low, lead, opens, closes, next_second, next_half, next_at}
 use Rattle.units.specs.Parameters.{in_field}
 use Rattle.generator.specs.Rows.{screen, field_at, visible_at, shows, transfer_at, held_address, place, asks, request_at}
 use Rattle.generator.specs.declared.Generator.{Generator}
@@ -76,8 +76,8 @@ unfoldable pub signals_with : Registers → Generator → List Dot → Signals
 signals_with r g four =
     record {
       sync = not (sync_low (field_at r g) (plain r.control) g.half.0 g.at.0);
-      vsync = not (is_vSync (period (field_at r g) g.half.0));
-      inactive = not (is_vDisplay (period (field_at r g) g.half.0));
+      vsync = not (is_vsync (period (field_at r g) g.half.0));
+      inactive = not (is_vdisplay (period (field_at r g) g.half.0));
       blank = not (shows r g);
       request = request_at r g;
       transfer = transferring r.control && transfer_at r g;

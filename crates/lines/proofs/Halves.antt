@@ -6,16 +6,16 @@ use native.Mathlib.Nat.{mul-le-mul_right}
 use native.Mathlib.Omega.{arith}
 use borrow.Author.Tests.{eq-eqb, ne_eqb, eqb-true, eqb-false}
 use lib.Dec.{eqb}
-use Rattle.units.specs.Parameters.{half_ticks, halves_to_vBlank, halves_to_vDisplay, halves_in_field}
+use Rattle.units.specs.Parameters.{half_ticks, halves_to_vblank, halves_to_vdisplay, halves_in_field}
 use Rattle.units.specs.declared.Screen.{Screen}
 use Rattle.lines.specs.Lines.{line_from, line_of, second_half, in_line, lines_above, column_of, field_visible}
 
 module _ (s : Screen) where
   -- with k half lines since VBlank's first, a half line is the first half of its line exactly when k is even
-  pub second_since_vblank : s.interlaced ≡ false → (k : ℕ) → second_half s (halves_to_vBlank s + k) ≡ eqb (k % 2) 1
+  pub second_since_vblank : s.interlaced ≡ false → (k : ℕ) → second_half s (halves_to_vblank s + k) ≡ eqb (k % 2) 1
   unfolding second_half line_from
   second_since_vblank n k =
-      let e : (halves_to_vBlank s + k + halves_to_vBlank s) % 2 ≡ k % 2 = omega arith in
+      let e : (halves_to_vblank s + k + halves_to_vblank s) % 2 ≡ k % 2 = omega arith in
       simp n (rw e)
 
   -- interlaced, half lines are numbered through the frame: an odd one is the second half of its line
@@ -105,5 +105,5 @@ module _ (s : Screen) where
   pub visible_most : field_visible s ≤ (s.vdisplay.0 + 1) * s.display.0
   unfolding field_visible lines_above line_of column_of
   visible_most =
-      let lines : (halves_in_field s + line_from s) / 2 - (halves_to_vDisplay s + line_from s) / 2 ≤ s.vdisplay.0 = omega arith in
+      let lines : (halves_in_field s + line_from s) / 2 - (halves_to_vdisplay s + line_from s) / 2 ≤ s.vdisplay.0 = omega arith in
       omega (arith, mul-le-mul_right s.display.0 lines)

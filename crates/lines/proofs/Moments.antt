@@ -10,9 +10,9 @@ use mir.Syntax.{w32}
 use mir.Val.{Fits}
 use lib.Dec.{ltb, leb, eqb}
 use lib.ListN.{get_or}
-use Rattle.units.specs.Parameters.{screen_of, in_field, half_ticks, display_from, halves_to_vBlank, halves_to_vDisplay, halves_in_field}
+use Rattle.units.specs.Parameters.{screen_of, in_field, half_ticks, display_from, halves_to_vblank, halves_to_vdisplay, halves_in_field}
 use Rattle.units.specs.declared.Screen.{Screen}
-use Rattle.lines.specs.Lines.{period, ends_of, is_vSync, is_vDisplay, line_from, line_of, second_half, in_line, visible, lead, column_of, lines_above, low_in, opens, closes, next_second, next_half, next_at, field_visible, moment_of}
+use Rattle.lines.specs.Lines.{period, ends_of, is_vsync, is_vdisplay, line_from, line_of, second_half, in_line, visible, lead, column_of, lines_above, low_in, opens, closes, next_second, next_half, next_at, field_visible, moment_of}
 use Rattle.lines.specs.declared.Ends.{Ends}
 use Rattle.lines.specs.declared.Period.{Period}
 use Rattle.lines.specs.declared.Period.TheVariants.{PreEqualise, VSync, PostEqualise, VBlank, VDisplay}
@@ -47,28 +47,28 @@ narrow params interlaced second f s e =
 
 -- two of the periods by their ends
 module _ (s : Screen) (half : ℕ) where
-  in_vsync : (leb s.vpreequalise.0 half && ltb half (s.vpreequalise.0 + s.vsync.0)) ≡ is_vSync (period s half)
+  in_vsync : (leb s.vpreequalise.0 half && ltb half (s.vpreequalise.0 + s.vsync.0)) ≡ is_vsync (period s half)
   unfolding period
-  in_vsync = go (ltb half s.vpreequalise.0) refl (ltb half (s.vpreequalise.0 + s.vsync.0)) (ltb half (halves_to_vBlank s)) (ltb half (halves_to_vDisplay s))
+  in_vsync = go (ltb half s.vpreequalise.0) refl (ltb half (s.vpreequalise.0 + s.vsync.0)) (ltb half (halves_to_vblank s)) (ltb half (halves_to_vdisplay s))
     where
-      go : (a : Bool) → ltb half s.vpreequalise.0 ≡ a → (b c d : Bool) → (leb s.vpreequalise.0 half && b) ≡ is_vSync (cond a PreEqualise (cond b VSync (cond c PostEqualise (cond d VBlank VDisplay))))
+      go : (a : Bool) → ltb half s.vpreequalise.0 ≡ a → (b c d : Bool) → (leb s.vpreequalise.0 half && b) ≡ is_vsync (cond a PreEqualise (cond b VSync (cond c PostEqualise (cond d VBlank VDisplay))))
       go true e b c d = simp (lt-leb s.vpreequalise.0 half (ltb-true _ _ e))
       go false e true c d = simp (le-leb s.vpreequalise.0 half (ltb-false _ _ e))
       go false e false true d = simp (le-leb s.vpreequalise.0 half (ltb-false _ _ e))
       go false e false false true = simp (le-leb s.vpreequalise.0 half (ltb-false _ _ e))
       go false e false false false = simp (le-leb s.vpreequalise.0 half (ltb-false _ _ e))
 
-  pub in_vdisplay : leb (halves_to_vDisplay s) half ≡ is_vDisplay (period s half)
+  pub in_vdisplay : leb (halves_to_vdisplay s) half ≡ is_vdisplay (period s half)
   unfolding period
-  in_vdisplay = go (ltb half s.vpreequalise.0) refl (ltb half (s.vpreequalise.0 + s.vsync.0)) refl (ltb half (halves_to_vBlank s)) refl (ltb half (halves_to_vDisplay s)) refl
+  in_vdisplay = go (ltb half s.vpreequalise.0) refl (ltb half (s.vpreequalise.0 + s.vsync.0)) refl (ltb half (halves_to_vblank s)) refl (ltb half (halves_to_vdisplay s)) refl
     where
-      go : (a : Bool) → ltb half s.vpreequalise.0 ≡ a → (b : Bool) → ltb half (s.vpreequalise.0 + s.vsync.0) ≡ b → (c : Bool) → ltb half (halves_to_vBlank s) ≡ c → (d : Bool) → ltb half (halves_to_vDisplay s) ≡ d →
-          leb (halves_to_vDisplay s) half ≡ is_vDisplay (cond a PreEqualise (cond b VSync (cond c PostEqualise (cond d VBlank VDisplay))))
-      go true ea b eb c ec d ed = lt-leb (halves_to_vDisplay s) half (omega (arith, ltb-true half s.vpreequalise.0 ea))
-      go false ea true eb c ec d ed = lt-leb (halves_to_vDisplay s) half (omega (arith, ltb-true half (s.vpreequalise.0 + s.vsync.0) eb))
-      go false ea false eb true ec d ed = lt-leb (halves_to_vDisplay s) half (omega (arith, ltb-true half (halves_to_vBlank s) ec))
-      go false ea false eb false ec true ed = lt-leb (halves_to_vDisplay s) half (ltb-true _ _ ed)
-      go false ea false eb false ec false ed = le-leb (halves_to_vDisplay s) half (ltb-false _ _ ed)
+      go : (a : Bool) → ltb half s.vpreequalise.0 ≡ a → (b : Bool) → ltb half (s.vpreequalise.0 + s.vsync.0) ≡ b → (c : Bool) → ltb half (halves_to_vblank s) ≡ c → (d : Bool) → ltb half (halves_to_vdisplay s) ≡ d →
+          leb (halves_to_vdisplay s) half ≡ is_vdisplay (cond a PreEqualise (cond b VSync (cond c PostEqualise (cond d VBlank VDisplay))))
+      go true ea b eb c ec d ed = lt-leb (halves_to_vdisplay s) half (omega (arith, ltb-true half s.vpreequalise.0 ea))
+      go false ea true eb c ec d ed = lt-leb (halves_to_vdisplay s) half (omega (arith, ltb-true half (s.vpreequalise.0 + s.vsync.0) eb))
+      go false ea false eb true ec d ed = lt-leb (halves_to_vdisplay s) half (omega (arith, ltb-true half (halves_to_vblank s) ec))
+      go false ea false eb false ec true ed = lt-leb (halves_to_vdisplay s) half (ltb-true _ _ ed)
+      go false ea false eb false ec false ed = le-leb (halves_to_vdisplay s) half (ltb-false _ _ ed)
 
   -- from the code's ends: the period, and in full lines the sync, whatever the period
   module _ (ends : Ends) (ends_are : ends ≡ ends_of s) where
@@ -79,8 +79,8 @@ module _ (s : Screen) (half : ℕ) where
     pub full_low : ends.post ≤ half → (plain : Bool) (halfsync broadpulse at tick : ℕ) → ltb tick (2 * halfsync) ≡ low_in plain halfsync broadpulse (period s half) at tick
     unfolding period
     full_low e plain halfsync broadpulse at tick =
-        let le : halves_to_vBlank s ≤ half = subst (λ (ends : Ends). ends.post ≤ half) ends_are e in
-        rw (le-ltb half s.vpreequalise.0 (omega arith), le-ltb half (s.vpreequalise.0 + s.vsync.0) (omega arith), le-ltb half (halves_to_vBlank s) le) (go (ltb half (halves_to_vDisplay s)))
+        let le : halves_to_vblank s ≤ half = subst (λ (ends : Ends). ends.post ≤ half) ends_are e in
+        rw (le-ltb half s.vpreequalise.0 (omega arith), le-ltb half (s.vpreequalise.0 + s.vsync.0) (omega arith), le-ltb half (halves_to_vblank s) le) (go (ltb half (halves_to_vdisplay s)))
       where
         go : (d : Bool) → ltb tick (2 * halfsync) ≡ low_in plain halfsync broadpulse (cond d VBlank VDisplay) at tick
         go true = refl
@@ -89,7 +89,7 @@ module _ (s : Screen) (half : ℕ) where
 module _ (s : Screen) (plain : Bool) (half at : ℕ)
     (from : ℕ) (from_is : from ≡ line_from s)
     (tick : ℕ) (tick_is : tick ≡ cond (eqb ((half + from) % 2) 1) (half_ticks s + at) at)
-    (line : ℕ) (line_is : line ≡ (half + from) / 2 - (halves_to_vDisplay s + from) / 2)
+    (line : ℕ) (line_is : line ≡ (half + from) / 2 - (halves_to_vdisplay s + from) / 2)
     (column : ℕ) (column_is : column ≡ tick - display_from s)
     (next : ℕ) (next_is : next ≡ cond (ltb (half + 1) (halves_in_field s)) (half + 1) 0)
     (low : Bool) (low_is : low ≡ low_in plain s.halfsync.0 s.broadpulse.0 (period s half) at tick)
@@ -97,10 +97,10 @@ module _ (s : Screen) (plain : Bool) (half at : ℕ)
     (later after : ℕ) (later_is : later ≡ cond (ltb (at + 1) (half_ticks s)) half next) (after_is : after ≡ cond (ltb (at + 1) (half_ticks s)) (at + 1) 0) where
   pub moment_by : (out : Screen) → s ≡ out → record {
     vsyncing = leb s.vpreequalise.0 half && ltb half (s.vpreequalise.0 + s.vsync.0);
-    vdisplaying = leb (halves_to_vDisplay s) half;
-    visible = leb (halves_to_vDisplay s) half && (leb (display_from s) tick && ltb tick (display_from s + s.display.0));
+    vdisplaying = leb (halves_to_vdisplay s) half;
+    visible = leb (halves_to_vdisplay s) half && (leb (display_from s) tick && ltb tick (display_from s + s.display.0));
     low = low;
-    opens = eqb half (halves_to_vDisplay s) && eqb at 0;
+    opens = eqb half (halves_to_vdisplay s) && eqb at 0;
     closes = leb (halves_in_field s) (half + 1) && leb (half_ticks s) (at + 1);
     column = column;
     line = line;
@@ -125,15 +125,15 @@ module _ (s : Screen) (narrow : Narrow s) (origin : ℕ) (origin_is : origin ≡
   unfolding line_from
   origin_most = rw origin_is (go s.interlaced s.second)
     where
-      go : (a b : Bool) → cond a (cond b (halves_in_field s) 0) (halves_to_vBlank s) ≤ 5 * 0xFFFFFFFF
+      go : (a b : Bool) → cond a (cond b (halves_in_field s) 0) (halves_to_vblank s) ≤ 5 * 0xFFFFFFFF
       go true true = omega (arith, narrow.vpreequalise, narrow.vsync, narrow.vpostequalise, narrow.vblank, narrow.vdisplay)
       go true false = omega arith
       go false b = omega (arith, narrow.vpreequalise, narrow.vsync, narrow.vpostequalise)
 
-  pub lines_most : (lines : ℕ) → lines ≡ (halves_in_field s + origin) / 2 - (halves_to_vDisplay s + origin) / 2 → lines * s.display.0 ≤ 2 ^ 31 * 0xFFFFFFFF
+  pub lines_most : (lines : ℕ) → lines ≡ (halves_in_field s + origin) / 2 - (halves_to_vdisplay s + origin) / 2 → lines * s.display.0 ≤ 2 ^ 31 * 0xFFFFFFFF
   lines_most lines lines-is = mul-le-mul {n₁ = lines} {m₁ = s.display.0} {n₂ = 2 ^ 31} {m₂ = 0xFFFFFFFF} (omega (arith, lines-is, narrow.vdisplay)) (omega (arith, narrow.display))
 
-  pub shown_by : (lines : ℕ) → lines ≡ (halves_in_field s + origin) / 2 - (halves_to_vDisplay s + origin) / 2 → (first last : ℕ) → first ≡ min s.display.0 (in_line s (halves_to_vDisplay s) 0 - display_from s) → last ≡ min s.display.0 (in_line s (halves_in_field s) 0 - display_from s) →
+  pub shown_by : (lines : ℕ) → lines ≡ (halves_in_field s + origin) / 2 - (halves_to_vdisplay s + origin) / 2 → (first last : ℕ) → first ≡ min s.display.0 (in_line s (halves_to_vdisplay s) 0 - display_from s) → last ≡ min s.display.0 (in_line s (halves_in_field s) 0 - display_from s) →
       (visible : ℕ) → visible ≡ lines * s.display.0 + last - first → (out : Screen) → s ≡ out → (first ≡ lead out) × (visible ≡ field_visible out)
   unfolding lead field_visible lines_above line_of column_of
   shown_by lines lines-is first last ef el visible ev out e = (ef ∙ rw e, ev ∙ rw (ef, el, lines-is, origin_is, e))

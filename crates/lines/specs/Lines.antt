@@ -2,7 +2,7 @@
 -- the field, at: the tick's number in the half line. A frame that is not interlaced is one field. Assumes nothing.
 use Rattle.std.specs.Prelude.{ℕ, ◌+◌, ◌-◌, ◌*◌, ◌/◌, ◌%◌, min, Bool, true, false, not, cond, ◌&&◌, ◌||◌, ltb, leb, eqb}
 use Rattle.base.specs.Count.{count}
-use Rattle.units.specs.Parameters.{half_ticks, display_from, halves_to_vBlank, halves_to_vDisplay, halves_in_field}
+use Rattle.units.specs.Parameters.{half_ticks, display_from, halves_to_vblank, halves_to_vdisplay, halves_in_field}
 use Rattle.units.specs.declared.Screen.{Screen}
 use Rattle.lines.specs.declared.Ends.{Ends}
 use Rattle.lines.specs.declared.Period.{Period}
@@ -14,32 +14,32 @@ unfoldable pub period : Screen → ℕ → Period
 period s half =
     cond (ltb half s.vpreequalise.0) PreEqualise
     (cond (ltb half (s.vpreequalise.0 + s.vsync.0)) VSync
-    (cond (ltb half (halves_to_vBlank s)) PostEqualise
-    (cond (ltb half (halves_to_vDisplay s)) VBlank
+    (cond (ltb half (halves_to_vblank s)) PostEqualise
+    (cond (ltb half (halves_to_vdisplay s)) VBlank
     VDisplay)))
 
 -- the half lines before the end of each period but the last, as the code has them
 abbrev pub ends_of : Screen → Ends
-ends_of s = record { pre = s.vpreequalise.0; sync = s.vpreequalise.0 + s.vsync.0; post = halves_to_vBlank s; blank = halves_to_vDisplay s }
+ends_of s = record { pre = s.vpreequalise.0; sync = s.vpreequalise.0 + s.vsync.0; post = halves_to_vblank s; blank = halves_to_vdisplay s }
 
-abbrev pub is_vSync : Period → Bool
-is_vSync PreEqualise = false
-is_vSync VSync = true
-is_vSync PostEqualise = false
-is_vSync VBlank = false
-is_vSync VDisplay = false
+abbrev pub is_vsync : Period → Bool
+is_vsync PreEqualise = false
+is_vsync VSync = true
+is_vsync PostEqualise = false
+is_vsync VBlank = false
+is_vsync VDisplay = false
 
-abbrev pub is_vDisplay : Period → Bool
-is_vDisplay PreEqualise = false
-is_vDisplay VSync = false
-is_vDisplay PostEqualise = false
-is_vDisplay VBlank = false
-is_vDisplay VDisplay = true
+abbrev pub is_vdisplay : Period → Bool
+is_vdisplay PreEqualise = false
+is_vdisplay VSync = false
+is_vdisplay PostEqualise = false
+is_vdisplay VBlank = false
+is_vdisplay VDisplay = true
 
 -- full lines are two half lines each. Interlaced, half lines are numbered through the frame, so those before the field are added; otherwise
 -- lines count from VBlank's first half line, and those before it are added, since the parity of a sum is that of the difference
 unfoldable pub line_from : Screen → ℕ
-line_from s = cond s.interlaced (cond s.second (halves_in_field s) 0) (halves_to_vBlank s)
+line_from s = cond s.interlaced (cond s.second (halves_in_field s) 0) (halves_to_vblank s)
 
 -- the full line that a half line is part of, by a number that goes up by one from line to line
 unfoldable pub line_of : Screen → ℕ → ℕ
@@ -59,11 +59,11 @@ in_display s tick = leb (display_from s) tick && ltb tick (display_from s + s.di
 
 -- a visible tick is a Display tick inside VDisplay
 unfoldable pub visible : Screen → ℕ → ℕ → Bool
-visible s half at = is_vDisplay (period s half) && in_display s (in_line s half at)
+visible s half at = is_vdisplay (period s half) && in_display s (in_line s half at)
 
 -- Display ticks of the first displayed line that lie before the first VDisplay tick: none unless VDisplay begins with a second half
 unfoldable pub lead : Screen → ℕ
-lead s = min s.display.0 (in_line s (halves_to_vDisplay s) 0 - display_from s)
+lead s = min s.display.0 (in_line s (halves_to_vdisplay s) 0 - display_from s)
 
 -- how far a tick is past the beginning of Display, past its end too: at a visible tick its column, in ticks
 unfoldable pub column_of : Screen → ℕ → ℕ → ℕ
@@ -71,7 +71,7 @@ column_of s half at = in_line s half at - display_from s
 
 -- the full lines that lie between VDisplay's first line and a half line's: at a visible tick the lines above it
 unfoldable pub lines_above : Screen → ℕ → ℕ
-lines_above s half = line_of s half - line_of s (halves_to_vDisplay s)
+lines_above s half = line_of s half - line_of s (halves_to_vdisplay s)
 
 -- sync is low, by the period; at: the tick's number in a cycle of half a line, tick: in the full line
 abbrev pub low_in : Bool → ℕ → ℕ → Period → ℕ → ℕ → Bool
@@ -86,7 +86,7 @@ sync_low s plain half at = low_in plain s.halfsync.0 s.broadpulse.0 (period s ha
 
 -- the first tick of VDisplay
 unfoldable pub opens : Screen → ℕ → ℕ → Bool
-opens s half at = eqb half (halves_to_vDisplay s) && eqb at 0
+opens s half at = eqb half (halves_to_vdisplay s) && eqb at 0
 
 -- the field's last tick
 unfoldable pub closes : Screen → ℕ → ℕ → Bool
@@ -123,8 +123,8 @@ field_visible s = passed_before s (halves_in_field s) 0
 unfoldable pub moment_of : Screen → Bool → ℕ → ℕ → Moment
 moment_of s plain half at =
     record {
-      vsyncing = is_vSync (period s half);
-      vdisplaying = is_vDisplay (period s half);
+      vsyncing = is_vsync (period s half);
+      vdisplaying = is_vdisplay (period s half);
       visible = visible s half at;
       low = sync_low s plain half at;
       opens = opens s half at;

@@ -2,8 +2,8 @@
 #![tactic(auto)]
 
 ghost use Rattle.std.specs.Prelude.{◌≡◌, false, cond, ◌+◌, ◌-◌, ◌^◌, ◌<◌, min, ltb};
-ghost use Rattle.units.specs.Parameters.{screen_of, in_field, display_from, halves_to_vBlank, halves_in_field};
-ghost use Rattle.lines.specs.Lines.{period, is_vDisplay, line_from, in_line, lead, low_in, ends_of, field_visible, moment_of};
+ghost use Rattle.units.specs.Parameters.{screen_of, in_field, display_from, halves_to_vblank, halves_in_field};
+ghost use Rattle.lines.specs.Lines.{period, is_vdisplay, line_from, in_line, lead, low_in, ends_of, field_visible, moment_of};
 ghost use Rattle.lines.specs.declared.Period.TheVariants.{PreEqualise, VSync, PostEqualise, VBlank, VDisplay};
 
 use units::Screen;
@@ -102,7 +102,7 @@ fn low_at(s: Screen, ends: Ends, plain: bool, half: u64, at: u64, tick: u64) -> 
 
 // A half line of either field lies in VDisplay.
 pub fn is_vdisplay(params: [u32; 14], half: u32) -> bool
-    ensures test { result ≡ is_vDisplay (period (screen_of params false) half) }
+    ensures test { result ≡ is_vdisplay (period (screen_of params false) half) }
 {
     let s = units::screen_of(params, false);
     let blank = s.vpreequalise.0 + s.vsync.0 + s.vpostequalise.0 + s.vblank.0;
@@ -112,7 +112,7 @@ pub fn is_vdisplay(params: [u32; 14], half: u32) -> bool
 // What is added to a half line's number in its field, so that an even sum is the first half of a line: `post` half lines come before VBlank,
 // `all` are in the field.
 fn origin_of(s: Screen, post: u64, all: u64) -> u64
-    requires { (post ≡ halves_to_vBlank s) × (all ≡ halves_in_field s) }
+    requires { (post ≡ halves_to_vblank s) × (all ≡ halves_in_field s) }
     ensures halves { result ≡ line_from s }
 {
     base::choose(s.interlaced, base::choose(s.second, all, 0), post)

@@ -5,14 +5,14 @@ use Rattle.words.specs.declared.number.Number.{Number}
 use Rattle.patient.specs.declared.thresholds.Level.{Level}
 
 -- what is wrong with a line, as numbers
-abbrev pub not_aLevel : ℕ
-not_aLevel = 5
+abbrev pub not_a_level : ℕ
+not_a_level = 5
 
 abbrev pub out_of_range : ℕ
 out_of_range = 6
 
-abbrev pub not_aStep : ℕ
-not_aStep = 7
+abbrev pub not_a_step : ℕ
+not_a_step = 7
 
 -- a level that no chart shows
 abbrev pub not_measured : ℕ
@@ -28,11 +28,11 @@ dash word = eqb (length word) 1 && eqb (get_or word 0 0) 45
 
 -- no number, or one beyond the most
 unfoldable pub wrong_number : Number → ℕ → ℕ
-wrong_number n most = cond (eqb n.fault 4) not_aLevel (cond (not (eqb n.fault 0) || ltb most n.value) out_of_range 0)
+wrong_number n most = cond (eqb n.fault 4) not_a_level (cond (not (eqb n.fault 0) || ltb most n.value) out_of_range 0)
 
 -- a level so many dB above -10, in steps of 5
 abbrev pub stepped : ℕ → Level
-stepped above = cond (eqb (above % 5) 0) (record { fault = 0; number = above / 5 }) (record { fault = not_aStep; number = not_measured })
+stepped above = cond (eqb (above % 5) 0) (record { fault = 0; number = above / 5 }) (record { fault = not_a_step; number = not_measured })
 
 -- so many dB: above 0 up to 120, or below it down to -10
 abbrev pub most_of : Bool → ℕ

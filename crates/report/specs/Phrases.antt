@@ -1,6 +1,6 @@
 -- The phrases that lines are made of (docs/SCRIPT.md). Assumes nothing.
 use Rattle.std.specs.Prelude.{ℕ, Bool, cond, List, [], ◌∷◌, eqb}
-use Rattle.words.specs.Faults.{unknown_command, too_few_words, too_many_words, not_aNumber, number_too_large, beyond_the_memory, too_large}
+use Rattle.words.specs.Faults.{unknown_command, too_few_words, too_many_words, not_a_number, number_too_large, beyond_the_memory, too_large}
 use Rattle.text.specs.Ascii.{ascii}
 use Rattle.text.specs.Hex.{hex_text}
 
@@ -22,7 +22,7 @@ reason_text fault =
     cond (eqb fault unknown_command) (ascii "unknown command")
     (cond (eqb fault too_few_words) (ascii "too few words")
     (cond (eqb fault too_many_words) (ascii "too many words")
-    (cond (eqb fault not_aNumber) (ascii "not a number")
+    (cond (eqb fault not_a_number) (ascii "not a number")
     (cond (eqb fault number_too_large) (ascii "number too large")
     (cond (eqb fault beyond_the_memory) (ascii "beyond the memory")
     (cond (eqb fault too_large) (ascii "too large")

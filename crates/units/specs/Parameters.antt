@@ -55,14 +55,14 @@ abbrev pub display_from : Screen → ℕ
 display_from s = 2 * s.halfsync.0 + s.backporch.0
 
 -- half lines of a field before VBlank, before VDisplay, and in all: the periods in frame order, not in register order
-abbrev pub halves_to_vBlank : Screen → ℕ
-halves_to_vBlank s = s.vpreequalise.0 + s.vsync.0 + s.vpostequalise.0
+abbrev pub halves_to_vblank : Screen → ℕ
+halves_to_vblank s = s.vpreequalise.0 + s.vsync.0 + s.vpostequalise.0
 
-abbrev pub halves_to_vDisplay : Screen → ℕ
-halves_to_vDisplay s = halves_to_vBlank s + s.vblank.0
+abbrev pub halves_to_vdisplay : Screen → ℕ
+halves_to_vdisplay s = halves_to_vblank s + s.vblank.0
 
 abbrev pub halves_in_field : Screen → ℕ
-halves_in_field s = halves_to_vDisplay s + s.vdisplay.0
+halves_in_field s = halves_to_vdisplay s + s.vdisplay.0
 
 -- an interlaced frame is two fields, any other one
 abbrev pub fields : Screen → ℕ

@@ -10,8 +10,8 @@ too_few_words = 2
 abbrev pub too_many_words : ℕ
 too_many_words = 3
 
-abbrev pub not_aNumber : ℕ
-not_aNumber = 4
+abbrev pub not_a_number : ℕ
+not_a_number = 4
 
 abbrev pub number_too_large : ℕ
 number_too_large = 5

@@ -1,6 +1,6 @@
 -- Numbers (docs/SCRIPT.md): decimal, or hexadecimal after `#`, in either case of letters, from 0 to 4,294,967,295. Assumes nothing.
 use Rattle.std.specs.Prelude.{ℕ, ◌+◌, ◌*◌, ◌-◌, Bool, true, false, cond, ◌&&◌, ◌||◌, List, [], ◌∷◌, ltb, leb, eqb, length, get_or, drop}
-use Rattle.words.specs.Faults.{not_aNumber, number_too_large}
+use Rattle.words.specs.Faults.{not_a_number, number_too_large}
 use Rattle.words.specs.declared.number.Number.{Number}
 
 -- what a byte counts as a digit, in either case of letters; 16 for a byte that is none
@@ -32,7 +32,7 @@ largest = 0xFFFFFFFF
 abbrev pub number_with : Bool → ℕ → Number
 number_with bad value =
     cond bad
-    (record { fault = not_aNumber; value = 0 })
+    (record { fault = not_a_number; value = 0 })
     (cond (ltb largest value) (record { fault = number_too_large; value = 0 }) (record { fault = 0; value = value }))
 
 -- no digit at all is no number either

@@ -7,7 +7,7 @@ use native.Mathlib.Omega.{arith}
 use Rattle.control.specs.Control.{running}
 use Rattle.screen.proofs.limits.Laws.{narrow}
 use Rattle.registers.specs.declared.Registers.{Registers}
-use Rattle.lines.specs.Lines.{period, is_vDisplay}
+use Rattle.lines.specs.Lines.{period, is_vdisplay}
 use Rattle.generator.specs.Sound.{Sound}
 use Rattle.generator.specs.Rows.{screen}
 use Rattle.generator.specs.Counters.{displaying}
@@ -20,7 +20,7 @@ half_in r g k on =
     let b = narrow (screen r) (k.accepted on).bounded in
     omega (arith, (k.placed on).half_in, b.vpreequalise.high, b.vsync.high, b.vpostequalise.high, b.vblank.high, b.vdisplay.high)
 
-lit : (r : Registers) (g : Generator) (b : Bool) → running r.control ≡ true → b ≡ is_vDisplay (period (screen_of r.params false) g.half.0) → b ≡ displaying r g
+lit : (r : Registers) (g : Generator) (b : Bool) → running r.control ≡ true → b ≡ is_vdisplay (period (screen_of r.params false) g.half.0) → b ≡ displaying r g
 unfolding displaying screen_of period
 lit r g b on e = rw on e
 

@@ -10,7 +10,7 @@ use lib.ListN.{length, get_or, drop}
 use Rattle.words.specs.Numbers.{number_of}
 use Rattle.words.specs.declared.number.Number.{Number}
 use Rattle.patient.specs.declared.thresholds.Level.{Level}
-use Rattle.patient.specs.Levels.{not_aLevel, out_of_range, not_measured, not_aStep, plain_number, dash, wrong_number, stepped, most_of, signed_level, level_of}
+use Rattle.patient.specs.Levels.{not_a_level, out_of_range, not_measured, not_a_step, plain_number, dash, wrong_number, stepped, most_of, signed_level, level_of}
 
 -- a word without its first byte
 pub none_left : (l : List ℕ) → length l ≡ 0 → l ≡ drop 1 l
@@ -20,11 +20,11 @@ none_left (x ∷ l) h = absurd (omega arith)
 pub step_whole : (above : ℕ) → above % 5 ≡ 0 → ◌≡◌ {A = Level} (record { fault = 0; number = above / 5 }) (stepped above)
 step_whole above h = rw (eq-eqb (above % 5) 0 h)
 
-pub step_part : (above : ℕ) → (above % 5 ≡ 0 → ⊥) → ◌≡◌ {A = Level} (record { fault = not_aStep; number = not_measured }) (stepped above)
+pub step_part : (above : ℕ) → (above % 5 ≡ 0 → ⊥) → ◌≡◌ {A = Level} (record { fault = not_a_step; number = not_measured }) (stepped above)
 step_part above h = rw (ne_eqb (above % 5) 0 h)
 
 -- what is wrong with a number, test by test
-pub wrong_made : (n : Number) (most range r : ℕ) → range ≡ cond (not (eqb n.fault 0) || ltb most n.value) out_of_range 0 → r ≡ cond (eqb n.fault 4) not_aLevel range → r ≡ wrong_number n most
+pub wrong_made : (n : Number) (most range r : ℕ) → range ≡ cond (not (eqb n.fault 0) || ltb most n.value) out_of_range 0 → r ≡ cond (eqb n.fault 4) not_a_level range → r ≡ wrong_number n most
 unfolding wrong_number
 wrong_made n most range r e f = rw (f, e)
 
@@ -33,7 +33,7 @@ pub wrong_none : (n : Number) (most : ℕ) → wrong_number n most ≡ 0 → n.v
 unfolding wrong_number
 wrong_none n most e = go (eqb n.fault 4) (eqb n.fault 0) (ltb most n.value) refl e
   where
-    go : (a b c : Bool) → ltb most n.value ≡ c → cond a not_aLevel (cond (not b || c) out_of_range 0) ≡ 0 → n.value ≤ most
+    go : (a b c : Bool) → ltb most n.value ≡ c → cond a not_a_level (cond (not b || c) out_of_range 0) ≡ 0 → n.value ≤ most
     go true b c l e = absurd (omega arith)
     go false true true l e = absurd (omega arith)
     go false true false l e = ltb-false most n.value l

@@ -5,7 +5,7 @@ use mathlib.Core.Path.{◌≡◌}
 use native.Mathlib.Nat.{add-zero}
 use native.Mathlib.Omega.{arith}
 use lib.Dec.{ltb, eqb}
-use Rattle.units.specs.Parameters.{half_ticks, display_from, halves_to_vDisplay}
+use Rattle.units.specs.Parameters.{half_ticks, display_from, halves_to_vdisplay}
 use Rattle.screen.specs.Limits.{Bounded}
 use Rattle.lines.specs.Lines.{lead}
 use Rattle.units.specs.declared.Screen.{Screen}
@@ -19,7 +19,7 @@ add_most s k true b late add el ea = omega (arith, k.halfsync.high, k.backporch.
 add_most s k false true late add el ea = omega arith
 add_most s k false false late add el ea = omega (arith, k.linetime.high, k.halfsync.high, k.backporch.high)
 
-by : (s : Screen) (before late add : ℕ) → before ≡ lead s → late ≡ cond (ltb before s.display.0) 0 (half_ticks s + display_from s) → add ≡ cond (eqb before 0) (display_from s) late → halves_to_vDisplay s * half_ticks s + add ≡ first_visible s
+by : (s : Screen) (before late add : ℕ) → before ≡ lead s → late ≡ cond (ltb before s.display.0) 0 (half_ticks s + display_from s) → add ≡ cond (eqb before 0) (display_from s) late → halves_to_vdisplay s * half_ticks s + add ≡ first_visible s
 unfolding first_visible
 by s before late add eb el ea = rw (ea, el, eb, add-zero)
 
@@ -47,12 +47,12 @@ overflow_add-half c =
 
 pub overflow_mul-result : goal.overflow_mul-result
 overflow_mul-result c =
-    let product : halves_to_vDisplay c.args.s * half_ticks c.args.s < 2 ^ 50 = lines_in _ _ (omega (arith, c.requires.bounded)) (omega (arith, c.requires.bounded.linetime.high)) in
+    let product : halves_to_vdisplay c.args.s * half_ticks c.args.s < 2 ^ 50 = lines_in _ _ (omega (arith, c.requires.bounded)) (omega (arith, c.requires.bounded.linetime.high)) in
     omega (arith, product)
 
 pub overflow_add-result : goal.overflow_add-result
 overflow_add-result c =
-    let product : halves_to_vDisplay c.args.s * half_ticks c.args.s < 2 ^ 50 = lines_in _ _ (omega (arith, c.requires.bounded)) (omega (arith, c.requires.bounded.linetime.high)) in
+    let product : halves_to_vdisplay c.args.s * half_ticks c.args.s < 2 ^ 50 = lines_in _ _ (omega (arith, c.requires.bounded)) (omega (arith, c.requires.bounded.linetime.high)) in
     let most : c.choose.result ≤ 2 ^ 27 = add_most c.args.s c.requires.bounded (eqb c.args.before 0) (ltb c.args.before c.args.s.display.0) _ _ c.choose-late.ensures.chosen c.choose.ensures.chosen in
     omega (arith, product, most)
 

@@ -7,7 +7,7 @@ numbers_of-requires c = most_bound _ c.if-name-lt13.true
 
 pub returns-then-name-lt13 : goal.returns-then-name-lt13
 returns-then-name-lt13 c =
-    let rest_of_it = c.Numbers-of.ensures in
+    let rest_of_it = c.numbers_of.ensures in
     record { numbers = rest_of_it.0; bound = rest_of_it.1 }
 
 pub returns : goal.returns
