@@ -13,6 +13,7 @@ use Rattle.generator.specs.Rows.{screen}
 use Rattle.calls.proofs.dark_halves.Goals as goal
 
 pub overflow_add-halves : goal.overflow_add-halves
+unfolding screen_of
 overflow_add-halves c =
     let fits : (i : ℕ) → Fits w32 (get_or c.args.n.params i 0) = λ i. search rules in
     let made : c.screen_of-s.result ≡ screen (bare c.args.n) = c.screen_of-s.ensures.screen ∙ ap (screen_of c.args.n.params) c.is_interlaced-interlaced.ensures.bit in
@@ -20,6 +21,7 @@ overflow_add-halves c =
     omega (arith, few _ (made))
 
 pub overflow_add-halves-2 : goal.overflow_add-halves-2
+unfolding screen_of
 overflow_add-halves-2 c =
     let fits : (i : ℕ) → Fits w32 (get_or c.args.n.params i 0) = λ i. search rules in
     let made : c.screen_of-s.result ≡ screen (bare c.args.n) = c.screen_of-s.ensures.screen ∙ ap (screen_of c.args.n.params) c.is_interlaced-interlaced.ensures.bit in
@@ -27,6 +29,7 @@ overflow_add-halves-2 c =
     omega (arith, few _ (made))
 
 pub overflow_add-halves-3 : goal.overflow_add-halves-3
+unfolding screen_of
 overflow_add-halves-3 c =
     let fits : (i : ℕ) → Fits w32 (get_or c.args.n.params i 0) = λ i. search rules in
     let made : c.screen_of-s.result ≡ screen (bare c.args.n) = c.screen_of-s.ensures.screen ∙ ap (screen_of c.args.n.params) c.is_interlaced-interlaced.ensures.bit in

@@ -49,7 +49,7 @@ overflow_sub-left c = omega (arith, c.steps-way.ensures.part.most)
 pub from_start-rest-requires : goal.from_start-rest-requires
 from_start-rest-requires c =
     let both = both_hold _ (eqb c.steps-way.result.refusal 0) c.if-runs-way.true in
-    record { runs = sym c.is_running-runs.ensures.bit ∙ both.0; c = λ l. (c.steps-way.ensures.part.early (eqb-true c.steps-way.result.refusal 0 both.1) (omega arith)).1; sound = c.steps-way.ensures.part.sound }
+    record { runs = sym c.is_running-runs.ensures.bit ∙ both.0; start = λ l. (c.steps-way.ensures.part.early (eqb-true c.steps-way.result.refusal 0 both.1) (omega arith)).1; sound = c.steps-way.ensures.part.sound }
 
 pub overflow_add-result : goal.overflow_add-result
 overflow_add-result c = omega (arith, c.steps-way.ensures.part.most, c.from_start-rest.ensures.ran.most, c.ranges)

@@ -24,7 +24,7 @@ pass_dark-p-requires c =
     let due : c.loop-done.done < c.args.count = test_below _ _ _ c.loop-done-test.true in
     let file : Registers = let a = c.args in file_of a.n a.colours.now a.palette.now a.store.now in
     let dark : (running (file).control ≡ true) × (c.dark_halves-halves.result ≡ halves_to_vdisplay (screen (file))) = dark_runs _ _ _ _ c.dark_halves-halves.ensures.halves c.if-now-halves.true in
-    let runs : Runs (file) c.loop-done.now = let z = c.loop-done.inv.2 in record { runs = dark.0; accepted = z.accepted dark.0; placed = z.placed dark.0 } in
+    let runs : Runs (file) c.loop-done.now = let z = c.loop-done.invariant.2 in record { runs = dark.0; accepted = z.accepted dark.0; placed = z.placed dark.0 } in
     record { runs = runs_bare (file) _ (runs); halves_value = ((dark).1, c.if-now-halves.true, omega (arith, due)) }
 
 pub tick_with-t-requires : goal.tick_with-t-requires
@@ -55,10 +55,10 @@ loop-done-preserved-then-now-halves c =
     let due : c.loop-done.done < c.args.count = test_below _ _ _ c.loop-done-test.true in
     let file : Registers = let a = c.args in file_of a.n a.colours.now a.palette.now a.store.now in
     let dark : (running (file).control ≡ true) × (c.dark_halves-halves.result ≡ halves_to_vdisplay (screen (file))) = dark_runs _ _ _ _ c.dark_halves-halves.ensures.halves c.if-now-halves.true in
-    let runs : Runs (file) c.loop-done.now = let z = c.loop-done.inv.2 in record { runs = dark.0; accepted = z.accepted dark.0; placed = z.placed dark.0 } in
+    let runs : Runs (file) c.loop-done.now = let z = c.loop-done.invariant.2 in record { runs = dark.0; accepted = z.accepted dark.0; placed = z.placed dark.0 } in
     let early : c.loop-done.now.half.0 < halves_to_vdisplay (screen (file)) = rw (← dark.1) c.if-now-halves.true in
     let l = c.loop-done in
-    (omega (arith, due, c.pass_dark-p.ensures.ticks.most), passed_ran _ _ (file) _ l.inv.2 (runs) (early) _ l.inv.1 _ _ c.pass_dark-p.ensures.ticks, passed_sound _ _ (file) _ l.inv.2 (runs) (early) _ l.inv.1 _ _ c.pass_dark-p.ensures.ticks)
+    (omega (arith, due, c.pass_dark-p.ensures.ticks.most), passed_ran _ _ (file) _ l.invariant.2 (runs) (early) _ l.invariant.1 _ _ c.pass_dark-p.ensures.ticks, passed_sound _ _ (file) _ l.invariant.2 (runs) (early) _ l.invariant.1 _ _ c.pass_dark-p.ensures.ticks)
 
 pub returns-then-refusal-ne0 : goal.returns-then-refusal-ne0
 returns-then-refusal-ne0 c =

@@ -11,7 +11,7 @@ use Rattle.calls.proofs.steps.Given as goal
 abbrev pub invariant-loop-done : goal.invariant-loop-done
 invariant-loop-done l =
     (l.done ≤ l.count)
-    × (◌≡◌ {A = Ran} (record { l.done = l.done; refusal = 0; machine = machine_of (file_of l.n l.colours l.palette l.store) l.now }) (ran_of l.memory (machine_of (file_of l.n l.colours l.palette l.store) l.initial.now) l.done))
+    × (◌≡◌ {A = Ran} (record { done = l.done; refusal = 0; machine = machine_of (file_of l.n l.colours l.palette l.store) l.now }) (ran_of l.memory (machine_of (file_of l.n l.colours l.palette l.store) l.initial.now) l.done))
     × Sound (file_of l.n l.colours l.palette l.store) l.now
 
 abbrev pub decreases-loop-done : goal.decreases-loop-done

@@ -6,9 +6,7 @@ pub numbers_of-requires : goal.numbers_of-requires
 numbers_of-requires c = most_bound _ c.if-name-lt13.true
 
 pub returns-then-name-lt13 : goal.returns-then-name-lt13
-returns-then-name-lt13 c =
-    let rest_of_it = c.numbers_of.ensures in
-    record { numbers = rest_of_it.0; bound = rest_of_it.1 }
+returns-then-name-lt13 c = record { numbers = c.numbers_of.ensures.numbers; bound = c.numbers_of.ensures.bound }
 
 pub returns : goal.returns
 returns c =
