@@ -16,5 +16,5 @@ end_of-requires c = c.plan_of-p.ensures.sized
 pub returns : goal.returns
 returns c =
     let a = c.args in
-    let rest_of_it = field_drawn a.r a.second a.memory.now _ c.plan_of-p.ensures.plan a.g.asked _ _ _ _ c.paint_field-sums.ensures c.end_of.ensures.end in
+    let rest_of_it = field_drawn a.r a.second a.memory.now _ c.plan_of-p.ensures.plan a.g.asked _ _ _ _ (c.paint_field-sums.ensures.sums, c.paint_field-sums.ensures.bytes) c.end_of.ensures.end in
     record { end = rest_of_it.0; bytes = rest_of_it.1 }

@@ -18,9 +18,9 @@ unfolding covered_colour colour_through
 loop-i-preserved c =
     let now = c.loop-i in
     let a = c.args in
-    let covered = covered_colour (through a.control a.position a.table.now a.store.now a.colours.now a.memory.now) (record { c = a.s.at + 3 * a.first; from = a.s.from; x = a.s.x; y = a.s.y; count = a.end }) in
+    let covered = covered_colour (through a.control a.position a.table.now a.store.now a.colours.now a.memory.now) (record { at = a.s.at + 3 * a.first; from = a.s.from; x = a.s.x; y = a.s.y; count = a.end }) in
     let e : c.cover-colour.result ≡ covered now.i = rw (c.cover-colour.ensures.colour, c.look.ensures.colour, c.first-code.ensures.chosen, c.cursor_code.ensures.code, c.is_cursor_on-on.ensures.bit) in
-    (omega arith, omega arith, omega arith, painted_turn covered a.first now.i now.invariant.0 now.invariant.3 now.invariant.2 (rw e c c.put-t.ensures.painted))
+    (omega arith, omega arith, omega arith, painted_turn covered a.first now.i now.invariant.0 now.invariant.3 now.invariant.2 (rw e at c.put-t.ensures.painted))
 
 pub returns : goal.returns
 returns c =
