@@ -1,10 +1,11 @@
-// Standard input, line by line: bytes up to LF, with a CR just before it.
+// Input that comes in pieces, line by line: bytes up to LF, with a CR just before it.
 #![tactic(auto)]
 
-ghost use Rattle.std.specs.Prelude.{◌≡◌, ◌-◌, ◌≤◌, take};
+ghost use Rattle.std.specs.Prelude.{◌≡◌, ◌-◌, ◌≤◌, length, take};
 ghost use Rattle.input.specs.Input.{taken_line, taken_room, line_of, first_reader, next_from, next_count, is_line, one_more};
 
 use room::bytes::one_less;
+use std::io::{ErrorKind, Read};
 
 // A piece of the input, and a line with its end and one byte more: so a line of more than 1,000 bytes is seen.
 pub const PIECE: usize = 65536;
@@ -56,8 +57,30 @@ fn turns_after(turns: u64, more: bool) -> u64
     0
 }
 
+// Reads a piece: how many bytes it has. A signal only has it read again; any other failure is taken for the input's end.
+fn read<R: Read>(input: &mut R, piece: &mut [u8; PIECE]) -> usize
+    ensures within { result ≤ length piece.new }
+{
+    for _ in 0..u64::MAX {
+        match input.read(piece) {
+            Ok(size) => return size,
+            Err(error) => {
+                if error.kind() != ErrorKind::Interrupted {
+                    return 0;
+                }
+            }
+        }
+    }
+    0
+}
+
 // Takes more of a line out of the piece, which is read anew where it is used up.
-pub fn next(r: Reader, piece: &mut [u8; PIECE], line: &mut [u8; LINE]) -> Reader
+pub fn next<R: Read>(
+    input: &mut R,
+    r: Reader,
+    piece: &mut [u8; PIECE],
+    line: &mut [u8; LINE],
+) -> Reader
     ensures fewer { result.turns ≤ r.turns - 1 }
     ensures taken { result.taken ≡ taken_line (take result.size piece.new) (next_from r) line.old (next_count r) }
     ensures bytes { line.new ≡ taken_room (take result.size piece.new) (next_from r) line.old (next_count r) }
@@ -72,8 +95,7 @@ pub fn next(r: Reader, piece: &mut [u8; PIECE], line: &mut [u8; LINE]) -> Reader
             turns: turns_after(r.turns, true),
         };
     }
-    let got = libc::read(0, piece);
-    let size = io::count(got, piece);
+    let size = read(input, piece);
     let taken = take_line(room::lent(piece, size), 0, line, length);
     Reader {
         size,
