@@ -2,7 +2,8 @@
 #![tactic(auto)]
 
 ghost use Rattle.std.specs.Prelude.{◌≡◌, ◌-◌, ◌≤◌, length, take};
-ghost use Rattle.input.specs.Input.{taken_line, taken_room, line_of, first_reader, next_from, next_count, is_line, one_more};
+ghost use Rattle.std.specs.Io.KnownBytes.{Consumes};
+ghost use Rattle.input.specs.Input.{taken_line, taken_room, line_of, first_reader, next_from, next_count, read_anew, is_line, one_more};
 
 use room::bytes::one_less;
 use std::io::{ErrorKind, Read};
@@ -57,13 +58,14 @@ fn turns_after(turns: u64, more: bool) -> u64
     0
 }
 
-// Reads a piece: how many bytes it has. A signal only has it read again; any other failure is taken for the input's end.
-fn read<R: Read>(input: &mut R, piece: &mut [u8; PIECE]) -> usize
-    ensures within { result ≤ length piece.new }
+// Reads some bytes: how many there are. A signal only has them read again; any other failure is taken for the input's end.
+pub fn read<R: Read>(input: &mut R, bytes: &mut [u8]) -> usize
+    ensures within { result ≤ length bytes.new }
+    ensures given { Consumes (R.remaining input.old) (R.remaining input.new) (take result bytes.new) }
 {
     for _ in 0..u64::MAX {
-        match input.read(piece) {
-            Ok(size) => return size,
+        match input.read(bytes) {
+            Ok(count) => return count,
             Err(error) => {
                 if error.kind() != ErrorKind::Interrupted {
                     return 0;
@@ -84,6 +86,7 @@ pub fn next<R: Read>(
     ensures fewer { result.turns ≤ r.turns - 1 }
     ensures taken { result.taken ≡ taken_line (take result.size piece.new) (next_from r) line.old (next_count r) }
     ensures bytes { line.new ≡ taken_room (take result.size piece.new) (next_from r) line.old (next_count r) }
+    ensures given { Consumes (R.remaining input.old) (R.remaining input.new) (read_anew r (take result.size piece.new)) }
 {
     let before = r.taken;
     let length = base::choose(before.ended, 0, before.length as u64) as usize;
