@@ -10,7 +10,8 @@ reach() {
             for (k = 1; k <= n; k++) take(on[k])
         }
         { sub(/#.*/, ""); at = index($0, ":") }
-        at { c = substr($0, 1, at - 1); gsub(/[ \t]/, "", c); lists[c] = substr($0, at + 1); crates[++count] = c }
+        # what else stands before the colon says what kind of crate it is
+        at && split(substr($0, 1, at - 1), words, " ") { c = words[1]; lists[c] = substr($0, at + 1); crates[++count] = c }
         END {
             take(name)
             for (k = 1; k <= count; k++) if (name == "" || crates[k] in taken) print crates[k] ":" lists[crates[k]]
@@ -34,4 +35,18 @@ current() {
         done
     done
     [ -z "$(find "$@" -newer "$mark" | head -n 1)" ]
+}
+
+# left NAME: the gate's `rt ci` has left NAME and what it stands on as libraries, and they are of what stands here. Of all commands it alone
+# leaves no stamp beside them.
+left() {
+    for c in $(reach "$1" | sed 's/:.*//'); do
+        folder=$here/crates/$c/out
+        [ -d "$folder/rlib/$c.rlib" ] && [ ! -e "$folder/rlib/stamp" ] && current "$folder/made" "$c" || return 1
+    done
+}
+
+# libraries NAME LOG: has NAME and what it stands on as libraries under crates/*/out/rlib, of what stands here. What is said goes to LOG.
+libraries() {
+    left "$1" || (cd "$here/crates/$1" && rt lib) >"$2" 2>&1 || { tail "$2" >&2; return 1; }
 }

@@ -13,25 +13,11 @@ ended() {
 }
 trap ended EXIT
 trap 'exit 1' HUP INT TERM PIPE
-
-# Each check copies all that it stands on there, up to 0.4 GB, and the gate has its tree there, 0.5 GB: quicker in memory, where that has room.
-in_memory() {
-    room=$(df -Pk "$1" | awk 'NR == 2 { print $4 }')
-    free=$(awk '/^MemAvailable:/ { print $2 }' /proc/meminfo)
-    [ "${room:-0}" -gt 4000000 ] && [ "${free:-0}" -gt 8000000 ] && cp /bin/true "$1/true" && "$1/true"
-}
-temp=$(mktemp -d /dev/shm/check.XXXXXX 2>/dev/null) || temp=''
-if [ -n "$temp" ] && ! in_memory "$temp" 2>/dev/null; then
-    rm -rf "$temp"
-    temp=''
-fi
-[ -n "$temp" ] || temp=$(mktemp -d)
-# root has programs run from there as nobody
-chmod 755 "$temp"
+temp=$(mktemp -d)
 
 # long COMMAND: runs it in a process group of its own, which an interrupt ends at once and whole; nothing on standard input.
 long() {
-    TMPDIR=$temp setsid "$@" </dev/null &
+    setsid "$@" </dev/null &
     job=$!
     status=0
     wait "$job" || status=$?

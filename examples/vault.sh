@@ -8,7 +8,7 @@ cd "$here"
 . .ci/kit.sh
 . .ci/made.sh
 release=target/host/release
-if [ ! -x "$release" ] || ! current target/host/made station host include; then host/run.sh >/dev/null; fi
+if [ ! -x "$release" ] || ! current target/host/made station_c host include; then host/run.sh >/dev/null; fi
 
 script() { # PATIENT [WORD]: the script of its chart
     ./run chart ${2:+"$2"} <"examples/$1.txt"
@@ -27,7 +27,7 @@ compared() {
     what=$1 seen=$2 answer=$4
     set -- $2 $3
     [ $# -eq 2 ] || set -- "$1" "$3" "$2" "$4"
-    said=$(x86 "$release" key "$@" </dev/null) || :
+    said=$("$release" key "$@" </dev/null) || :
     printf '%-32s%s: %s\n' "$what" "$(echo $seen)" "$said"
     [ "$said" = "$answer" ]
 }

@@ -1,7 +1,6 @@
 #!/bin/sh
-# Builds libstation.a, its test and the release program with the kit's own compiler, linker and C library, and runs them: natively on x86-64,
-# elsewhere under the kit's emulator. Where there is an ordinary x86-64 gcc, it links both once more with that, and runs them again.
-# Ends with a nonzero status if an answer is wrong.
+# Builds libstation.a, its test and the release program with the kit's own compiler, linker and C library, and runs them. Where there is an
+# ordinary x86-64 gcc, it links both once more with that, and runs them again. Ends with a nonzero status if an answer is wrong.
 set -eu
 here=$(cd "$(dirname "$0")/.." && pwd -P)
 cd "$here"
@@ -9,7 +8,7 @@ cd "$here"
 . .ci/made.sh
 out=target/host
 mkdir -p "$out"
-made station >"$out/begun"
+made station_c >"$out/begun"
 
 # quiet NAME COMMAND: what it says goes to a file, and is shown if it fails
 quiet() {
@@ -18,15 +17,13 @@ quiet() {
     "$@" >"$said" 2>&1 || { cat "$said" >&2; exit 1; }
 }
 
-# what the archive stands on is proved side by side first
-quiet check.log rt check station
-quiet staticlib.log rt staticlib station
+quiet lib.log sh -c 'cd crates/station_c && exec rt lib'
+cp crates/station_c/out/libstation_c.a "$out/libstation.a"
 
 build() { # NAME
     "$tools/bin/clang" --target=x86_64-unknown-linux-gnu -std=c11 -O2 -fPIE -ffreestanding -nostdinc -Wall -Wextra -Werror \
         -isystem host/libc -I include -c "host/$1.c" -o "$out/$1.o"
-    quiet link.log "$own/bin/rattle-link" --target x86_64-unknown-linux-gnu --toolchain "$tools" \
-        -o "$out/$1" "$out/$1.o" target/staticlib/libstation.a
+    quiet link.log "$kit/bin/rattle-link" --target x86_64-unknown-linux-gnu --toolchain "$tools" -o "$out/$1" "$out/$1.o" "$out/libstation.a"
 }
 
 # What the release program writes and how it ends, held to what is right; `release` runs it.
@@ -95,8 +92,8 @@ for tag in 41 42 43 44 45 46 47 50 51 52 53 54 55 56; do printf "\\$tag\\000\\00
 
 build test
 build release
-x86 "$out/test"
-release() { x86 "$out/release" "$@"; }
+"$out/test"
+release() { "$out/release" "$@"; }
 released
 # a later user sees by this mark whether they are still of what stands here
 cp -p "$out/begun" "$out/made"
@@ -108,7 +105,7 @@ ordinary() {
 }
 if ordinary; then
     for name in test release; do
-        set -- gcc -std=c11 -O2 -Wall -Wextra -I include "host/$name.c" target/staticlib/libstation.a -o "$out/$name-gcc"
+        set -- gcc -std=c11 -O2 -Wall -Wextra -I include "host/$name.c" "$out/libstation.a" -o "$out/$name-gcc"
         echo "$*"
         "$@"
     done

@@ -63,18 +63,13 @@ fn same(before: Generator, a: Ticked, b: Ticked) -> bool {
     (a.refusal == b.refusal) & signals & same_record(one, other) & kept
 }
 
-fn say(name: &[u8], calls: u64, accepted: u64, unlike: u64) {
-    io::write_all(1, name);
-    io::print_decimal(1, calls);
-    io::write_all(1, b" calls, ");
-    io::print_decimal(1, accepted);
-    io::write_all(1, b" accepted, ");
-    io::print_decimal(1, unlike);
-    io::write_all(1, b" unlike\n");
+// A write that fails is not told of.
+fn say(out: &impl Print, name: &str, calls: u64, accepted: u64, unlike: u64) {
+    let _ = println!(out; "{name}: {calls} calls, {accepted} accepted, {unlike} unlike");
 }
 
 // Ticks both ways from one record, and says how it went.
-fn run(name: &[u8], r: Registers, g: Generator, memory: &[u8])
+fn run(out: &impl Print, name: &str, r: Registers, g: Generator, memory: &[u8])
     requires { Sound r g }
 {
     let mut lent = g;
@@ -91,7 +86,7 @@ fn run(name: &[u8], r: Registers, g: Generator, memory: &[u8])
         kept = other.next;
         calls += 1;
     }
-    say(name, calls, accepted, unlike);
+    say(out, name, calls, accepted, unlike);
 }
 
 fn write(m: Machine, address: u32, value: u32) -> Machine
@@ -132,15 +127,15 @@ fn started(screen: [u32; 14], control: u32) -> Machine
     write(masked, 0x060, control)
 }
 
-fn main() {
+fn main(rt: HostRuntime) {
     let memory: [u8; 16] = [15, 14, 13, 12, 11, 10, 9, 8, 7, 6, 5, 4, 3, 2, 1, 0];
     let m = started([1, 3, 2, 1, 4, 1, 1, 1, 2, 4, 14, 0, 1, 1], RUNNING);
-    run(b"16 bytes: ", m.regs, m.generator, &memory);
-    run(b"15 bytes: ", m.regs, m.generator, &memory[..15]);
+    run(&rt, "16 bytes", m.regs, m.generator, &memory);
+    run(&rt, "15 bytes", m.regs, m.generator, &memory[..15]);
     let stopped = write(m, 0x060, STOPPED);
-    run(b"stopped: ", stopped.regs, stopped.generator, &memory);
+    run(&rt, "stopped", stopped.regs, stopped.generator, &memory);
     // as many bytes as its two fields reach
     let longer = [9u8; 88];
     let laced = started([1, 3, 6, 1, 4, 1, 1, 1, 1, 3, 14, 0, 2, 1], INTERLACED);
-    run(b"interlaced: ", laced.regs, laced.generator, &longer);
+    run(&rt, "interlaced", laced.regs, laced.generator, &longer);
 }

@@ -2,10 +2,13 @@
 // `interlaced`, in the oldest; a wrong line is named on standard error.
 #![tactic(auto)]
 
-use input::LINE;
+use input::{LINE, PIECE};
 use patient::thresholds::Chart;
 use patient::{level, thresholds};
 use scribe::{ending, pokes, settings};
+use std::env::FillError;
+use std::io::{Read, Write};
+use std::rt::Env;
 
 // The chart read so far, the lines read, and a fault or 0.
 #[derive(Clone, Copy)]
@@ -27,18 +30,18 @@ fn picture_room() -> [u8; 77824] {
     [0; 77824]
 }
 
-// Writes what waits.
-fn write_out(out: &[u8], waiting: usize) -> usize {
-    io::write_all(1, room::lent(out, waiting));
+// Writes what waits. A write that fails is not told of.
+fn write_out<W: Write>(script: &mut W, out: &[u8], waiting: usize) -> usize {
+    let _ = script.write_all(room::lent(out, waiting));
     0
 }
 
 // Writes what waits where the room for another line is short.
-fn spaced(out: &[u8], waiting: usize) -> usize {
+fn spaced<W: Write>(script: &mut W, out: &[u8], waiting: usize) -> usize {
     if waiting < 65000 {
         return waiting;
     }
-    write_out(out, waiting)
+    write_out(script, out, waiting)
 }
 
 // A part of the memory with nothing on it.
@@ -53,21 +56,22 @@ fn is_blank(part: &[u8]) -> bool {
 }
 
 // The line that pokes a part of the memory; none for a part with nothing on it.
-fn poke(out: &mut [u8], waiting: usize, part: &[u8], at: u32) -> usize {
+fn poke<W: Write>(script: &mut W, out: &mut [u8], waiting: usize, part: &[u8], at: u32) -> usize {
     if is_blank(part) {
         return waiting;
     }
-    let room = spaced(out, waiting);
+    let room = spaced(script, out, waiting);
     pokes::put_poke(out, room, at, part)
 }
 
 // The picture memory, 64 bytes a line.
-fn pokes(out: &mut [u8], at: usize, memory: &[u8]) -> usize {
+fn pokes<W: Write>(script: &mut W, out: &mut [u8], at: usize, memory: &[u8]) -> usize {
     let mut waiting = at;
     let mut from: usize = 0;
     while from < memory.len() {
         let left = &memory[from..];
         waiting = poke(
+            script,
             out,
             waiting,
             room::lent(left, 64),
@@ -79,17 +83,17 @@ fn pokes(out: &mut [u8], at: usize, memory: &[u8]) -> usize {
 }
 
 // The whole script: the registers and the palette, the memory and its pokes, the start, a frame's ticks, the picture and the checksums.
-fn script_for(chart: Chart, interlaced: bool, out: &mut [u8]) {
+fn script_for<W: Write>(script: &mut W, chart: Chart, interlaced: bool, out: &mut [u8]) {
     let mut memory = picture_room();
     let size = audiogram::size_of(interlaced);
     audiogram::draw(chart, interlaced, &mut memory);
     let set = settings::put_settings(out, 0, interlaced);
     let lent = ending::put_memory(out, set, interlaced);
-    let poked = pokes(out, lent, room::lent(&memory, size));
-    let room = spaced(out, poked);
+    let poked = pokes(script, out, lent, room::lent(&memory, size));
+    let room = spaced(script, out, poked);
     let started = settings::put_start(out, room, interlaced);
     let end = ending::put_end(out, started, interlaced);
-    write_out(out, end);
+    write_out(script, out, end);
 }
 
 // What is wrong with a line.
@@ -118,13 +122,13 @@ fn phrase(out: &mut [u8], at: usize, fault: u32) -> usize {
     room::put(out, at, b"line too long\n")
 }
 
-// `line N: what is wrong`, on standard error.
-fn complain(lines: u64, fault: u32, out: &mut [u8]) {
+// `line N: what is wrong`.
+fn complain<W: Write>(said: &mut W, lines: u64, fault: u32, out: &mut [u8]) {
     let word = room::put(out, 0, b"line ");
     let number = text::put_decimal(out, word, lines);
     let colon = room::put(out, number, b": ");
     let end = phrase(out, colon, fault);
-    io::write_all(2, room::lent(out, end));
+    write_out(said, out, end);
 }
 
 // A whole line; after a wrong one no other is read.
@@ -143,8 +147,8 @@ fn line_read(d: Desk, line: &[u8]) -> Desk {
 }
 
 // The whole input.
-fn read_all() -> Desk {
-    let mut piece = io::large_buffer();
+fn read_all<R: Read>(input: &mut R) -> Desk {
+    let mut piece = [0u8; PIECE];
     let mut line = [0u8; LINE];
     let chart = thresholds::fresh();
     let mut desk = Desk {
@@ -154,7 +158,7 @@ fn read_all() -> Desk {
     };
     let mut reader = input::begin();
     while 0 < reader.turns {
-        reader = input::next(reader, &mut piece, &mut line);
+        reader = input::next(input, reader, &mut piece, &mut line);
         if input::is_line(reader) {
             desk = line_read(desk, input::line_of(reader, &line));
         }
@@ -162,35 +166,39 @@ fn read_all() -> Desk {
     desk
 }
 
+// Whether the program was given a word of that number; its own name is word 0.
+fn is_given(env: &impl Env, number: usize) -> bool {
+    match env.arg(number, &mut [0u8; 16]) {
+        Err(FillError::NotPresent) => false,
+        Err(FillError::TooLong) | Ok(_) => true,
+    }
+}
+
 // The room that the program's words ask for: today's by none, the oldest by `interlaced` alone.
-fn asked_room() -> Asked {
+fn asked_room(env: &impl Env) -> Asked {
     let mut word = [0u8; 16];
-    let words = os::arg_count();
-    let length = os::arg(1, &mut word);
-    let interlaced = check::same(room::lent(&word, length), b"interlaced");
+    let length = env.arg(1, &mut word).unwrap_or(0);
+    let interlaced = check::same(room::lent(&word, length), b"interlaced") & !is_given(env, 2);
     Asked {
-        known: (words < 2) | ((words == 2) & interlaced),
+        known: interlaced | !is_given(env, 1),
         interlaced,
     }
 }
 
-fn main() {
-    let mut out = io::large_buffer();
-    let asked = asked_room();
+fn main(rt: HostRuntime) {
+    let mut out = [0u8; 65536];
+    let asked = asked_room(&rt);
     if !asked.known {
-        let end = room::put(
-            &mut out,
-            0,
+        let _ = rt.stderr().write_all(
             b"chart: no such room; usage: chart < PATIENT, or chart interlaced < PATIENT\n",
         );
-        io::write_all(2, room::lent(&out, end));
         return;
     }
-    let desk = read_all();
+    let desk = read_all(&mut rt.stdin());
     if desk.fault != 0 {
-        complain(desk.lines, desk.fault, &mut out);
+        complain(&mut rt.stderr(), desk.lines, desk.fault, &mut out);
         return;
     }
     let chart = desk.chart;
-    script_for(chart, asked.interlaced, &mut out);
+    script_for(&mut rt.stdout(), chart, asked.interlaced, &mut out);
 }

@@ -2,6 +2,11 @@
 // standard error.
 #![tactic(auto)]
 
-fn main() {
-    session::session(report::PICTURE);
+fn main(rt: HostRuntime) {
+    session::session(
+        report::PICTURE,
+        &mut rt.stdin(),
+        &mut rt.stderr(),
+        &mut rt.stdout(),
+    );
 }

@@ -1,7 +1,7 @@
 -- A line taken byte by byte: what is still to be taken comes to the same line, room and place. Assumes nothing.
 use Prim.Native.Nat.{ℕ, suc, ◌+◌, ◌-◌, ◌≤◌, ◌<◌}
 use mathlib.Core.Bool.{Bool, true, false}
-use mathlib.Core.List.{List, ◌∷◌}
+use mathlib.Core.List.{List, [], ◌∷◌}
 use mathlib.Core.Path.{◌≡◌, refl, sym, ◌∙◌}
 use native.Mathlib.Numerals.{add-one}
 use native.Mathlib.Omega.{arith}
@@ -9,6 +9,8 @@ use borrow.Author.Tests.{eq-eqb, ne_eqb}
 use lib.ListN.{length, get_or, take, drop, set, length-set, drop_of_length-le}
 use lib.Seq.{take-nil}
 use Rattle.base.proofs.Lists.{left_from}
+use Rattle.std.specs.Prelude.{Option, None, Some}
+use Rattle.std.specs.Io.KnownBytes.{Consumes}
 use Rattle.input.specs.Input.{up_to_end, has_end, placed, taken_line, taken_room, next_from, next_count}
 use Rattle.input.specs.declared.Taken.{Taken}
 use Rattle.input.specs.declared.Reader.{Reader}
@@ -94,3 +96,8 @@ module _ (piece : List ℕ) (at : ℕ) (room : List ℕ) (count : ℕ) where
 -- a turn: what is taken of a part that is the piece's bytes, from the place where they are next
 pub next_taken : (r : Reader) (bytes part room after : List ℕ) (from count : ℕ) (taken : Taken) → part ≡ bytes → from ≡ next_from r → count ≡ next_count r → (taken ≡ taken_line part from room count) × (after ≡ taken_room part from room count) → (taken ≡ taken_line bytes (next_from r) room (next_count r)) × (after ≡ taken_room bytes (next_from r) room (next_count r))
 next_taken r bytes part room after from count taken e f k (p, q) = (rw (← e, ← f, ← k) p, rw (← e, ← f, ← k) q)
+
+-- a turn that reads nothing leaves what a reader has left
+pub none_taken : (known : Option (List ℕ)) → Consumes known known []
+none_taken None = tt
+none_taken (Some left) = refl

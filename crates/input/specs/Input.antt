@@ -50,6 +50,10 @@ next_from r = cond (ltb r.taken.at r.size) r.taken.at 0
 abbrev pub next_count : Reader → ℕ
 next_count r = cond r.taken.ended 0 r.taken.length
 
+-- what is read: a piece where the one before it is used up
+abbrev pub read_anew : Reader → List ℕ → List ℕ
+read_anew r piece = cond (ltb r.taken.at r.size) [] piece
+
 -- a whole line has been taken: the last may lack its end
 abbrev pub is_line : Reader → Bool
 is_line r = r.taken.ended || (eqb r.turns 0 && ltb 0 r.taken.length)

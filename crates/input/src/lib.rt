@@ -1,10 +1,12 @@
-// Standard input, line by line: bytes up to LF, with a CR just before it.
+// Input that comes in pieces, line by line: bytes up to LF, with a CR just before it.
 #![tactic(auto)]
 
-ghost use Rattle.std.specs.Prelude.{◌≡◌, ◌-◌, ◌≤◌, take};
-ghost use Rattle.input.specs.Input.{taken_line, taken_room, line_of, first_reader, next_from, next_count, is_line, one_more};
+ghost use Rattle.std.specs.Prelude.{◌≡◌, ◌-◌, ◌≤◌, length, take};
+ghost use Rattle.std.specs.Io.KnownBytes.{Consumes};
+ghost use Rattle.input.specs.Input.{taken_line, taken_room, line_of, first_reader, next_from, next_count, read_anew, is_line, one_more};
 
 use room::bytes::one_less;
+use std::io::{ErrorKind, Read};
 
 // A piece of the input, and a line with its end and one byte more: so a line of more than 1,000 bytes is seen.
 pub const PIECE: usize = 65536;
@@ -56,11 +58,35 @@ fn turns_after(turns: u64, more: bool) -> u64
     0
 }
 
+// Reads some bytes: how many there are. A signal only has them read again; any other failure is taken for the input's end.
+pub fn read<R: Read>(input: &mut R, bytes: &mut [u8]) -> usize
+    ensures within { result ≤ length bytes.new }
+    ensures given { Consumes (R.remaining input.old) (R.remaining input.new) (take result bytes.new) }
+{
+    for _ in 0..u64::MAX {
+        match input.read(bytes) {
+            Ok(count) => return count,
+            Err(error) => {
+                if error.kind() != ErrorKind::Interrupted {
+                    return 0;
+                }
+            }
+        }
+    }
+    0
+}
+
 // Takes more of a line out of the piece, which is read anew where it is used up.
-pub fn next(r: Reader, piece: &mut [u8; PIECE], line: &mut [u8; LINE]) -> Reader
+pub fn next<R: Read>(
+    input: &mut R,
+    r: Reader,
+    piece: &mut [u8; PIECE],
+    line: &mut [u8; LINE],
+) -> Reader
     ensures fewer { result.turns ≤ r.turns - 1 }
     ensures taken { result.taken ≡ taken_line (take result.size piece.new) (next_from r) line.old (next_count r) }
     ensures bytes { line.new ≡ taken_room (take result.size piece.new) (next_from r) line.old (next_count r) }
+    ensures given { Consumes (R.remaining input.old) (R.remaining input.new) (read_anew r (take result.size piece.new)) }
 {
     let before = r.taken;
     let length = base::choose(before.ended, 0, before.length as u64) as usize;
@@ -72,8 +98,7 @@ pub fn next(r: Reader, piece: &mut [u8; PIECE], line: &mut [u8; LINE]) -> Reader
             turns: turns_after(r.turns, true),
         };
     }
-    let got = libc::read(0, piece);
-    let size = io::count(got, piece);
+    let size = read(input, piece);
     let taken = take_line(room::lent(piece, size), 0, line, length);
     Reader {
         size,

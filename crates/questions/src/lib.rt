@@ -15,6 +15,7 @@ use paperwork::store;
 use report::{ANSWERS, Page, phrases};
 use script::command::Command;
 use script::names;
+use std::io::Write;
 use text::rows;
 
 // What a command has found: its refusal or 0, and the place past its answer. Where only a verdict is due, that is put over it.
@@ -32,14 +33,14 @@ fn is_brief(p: Page, refusal: u32) -> bool
 }
 
 // Bytes in hexadecimal, 32 a line.
-fn rows(p: Page, out: &mut [u8], bytes: &[u8]) -> Page
+fn rows<W: Write>(p: Page, out: &mut [u8], said: &mut W, bytes: &[u8]) -> Page
     ensures page { result ≡ (rows_shown p out.old bytes.now).page }
     ensures bytes { out.new ≡ (rows_shown p out.old bytes.now).bytes }
 {
     let mut page = p;
     let mut from: usize = 0;
     while from < bytes.len() {
-        page = report::space(page, out);
+        page = report::space(page, out, said);
         let left = &bytes[from..];
         let end = rows::put_row(out, page.waiting, room::lent(left, 32));
         page = report::turn(page, end);
@@ -49,7 +50,13 @@ fn rows(p: Page, out: &mut [u8], bytes: &[u8]) -> Page
 }
 
 // Bytes that were asked for, or a refusal.
-pub fn show_bytes(p: Page, out: &mut [u8], refusal: u32, bytes: &[u8]) -> Page
+pub fn show_bytes<W: Write>(
+    p: Page,
+    out: &mut [u8],
+    said: &mut W,
+    refusal: u32,
+    bytes: &[u8],
+) -> Page
     ensures room { length out.new ≡ length out.old }
     ensures page { result ≡ (bytes_shown p out.old refusal bytes.now).page }
     ensures bytes { out.new ≡ (bytes_shown p out.old refusal bytes.now).bytes }
@@ -58,7 +65,7 @@ pub fn show_bytes(p: Page, out: &mut [u8], refusal: u32, bytes: &[u8]) -> Page
     if is_brief(p, refusal) {
         return page;
     }
-    rows(page, out, bytes)
+    rows(page, out, said, bytes)
 }
 
 // `read ADDRESS`.
@@ -141,14 +148,14 @@ fn compare(at: usize, c: Command, out: &mut [u8]) -> Finding
 }
 
 // `store ROOM VALUE x14`.
-fn store(p: Page, c: Command, out: &mut [u8]) -> Page
+fn store<W: Write>(p: Page, c: Command, out: &mut [u8], said: &mut W) -> Page
     ensures page { result ≡ (bytes_shown p out.old (stored_of c).refusal (take (stored_of c).room (stored_of c).bytes)).page }
     ensures bytes { out.new ≡ (bytes_shown p out.old (stored_of c).refusal (take (stored_of c).room (stored_of c).bytes)).bytes }
 {
     let stored = store::stored_of(c);
     let bytes = stored.bytes;
     let room = stored.room;
-    show_bytes(p, out, stored.refusal, room::lent(&bytes, room))
+    show_bytes(p, out, said, stored.refusal, room::lent(&bytes, room))
 }
 
 // A command that finds something out.
@@ -176,14 +183,14 @@ fn find(at: usize, c: Command, m: Machine, out: &mut [u8]) -> Finding
 }
 
 // A command that only asks.
-pub fn answer(p: Page, c: Command, m: Machine, out: &mut [u8]) -> Page
+pub fn answer<W: Write>(p: Page, c: Command, m: Machine, out: &mut [u8], said: &mut W) -> Page
     requires { Sound m.regs m.generator }
     ensures room { length out.new ≡ length out.old }
     ensures page { result ≡ (answer_shown p c m out.old).page }
     ensures bytes { out.new ≡ (answer_shown p c m out.old).bytes }
 {
     if c.name == names::STORE {
-        return store(p, c, out);
+        return store(p, c, out, said);
     }
     let answer = find(p.waiting, c, m, out);
     if is_brief(p, answer.refusal) {

@@ -11,6 +11,7 @@ ghost use Rattle.report.specs.Notes.{refused_texts, fault_texts};
 ghost use Rattle.report.specs.Pages.{blank_page, turned, spaced, next_line, counted, verdict_texts, step_texts};
 
 use signals::Signals;
+use std::io::Write;
 
 // The form; the lines read; the bytes that wait to be written; the ticks so far and what the last one put out; the last picture's size, 0
 // before one, and the pixels of a line's first half where it is interlaced.
@@ -69,34 +70,29 @@ fn count(p: Page, waiting: usize, s: Signals) -> Page
     }
 }
 
-// Writes what waits: a picture has standard output for itself.
-pub fn write(p: Page, out: &[u8]) -> Page
+// Writes what waits. A write that fails is not told of.
+pub fn write<W: Write>(p: Page, out: &[u8], said: &mut W) -> Page
     ensures page { result ≡ turned p 0 }
 {
-    let waiting = room::lent(out, p.waiting);
-    if p.form == PICTURE {
-        io::write_all(2, waiting);
-    } else {
-        io::write_all(1, waiting);
-    }
+    let _ = said.write_all(room::lent(out, p.waiting));
     turn(p, 0)
 }
 
 // Writes what waits where the room for more is short.
-pub fn space(p: Page, out: &[u8]) -> Page
+pub fn space<W: Write>(p: Page, out: &[u8], said: &mut W) -> Page
     ensures page { result ≡ turned p (spaced p) }
 {
     if p.waiting < 32768 {
         return turn(p, p.waiting);
     }
-    write(p, out)
+    write(p, out, said)
 }
 
 // The page at the next line of the script.
-pub fn next_line(p: Page, out: &[u8]) -> Page
+pub fn next_line<W: Write>(p: Page, out: &[u8], said: &mut W) -> Page
     ensures page { result ≡ next_line p }
 {
-    let mut page = space(p, out);
+    let mut page = space(p, out, said);
     page.lines = input::one_more(p.lines);
     page
 }

@@ -1,4 +1,4 @@
-// A whole script (docs/SCRIPT.md), from standard input, in one of three forms: answers, a waveform of the ticks, or the last picture.
+// A whole script (docs/SCRIPT.md), in one of three forms: answers, a waveform of the ticks, or the last picture.
 #![tactic(auto)]
 
 ghost use Rattle.std.specs.Prelude.{◌≤◌, ◌<◌, ◌≡◌, length};
@@ -9,11 +9,12 @@ ghost use Rattle.session.specs.Session.{first_done, line_done, line_memory, line
 ghost use Rattle.session.specs.Shows.{open_shown, close_shown, page_weave, woven_shown, ppm_shown, is_shown, tick_shown, ticks_shown, run_shown, picture_shown, result_shown, command_shown, line_shown};
 
 use changes::Done;
-use input::LINE;
+use input::{LINE, PIECE};
 use machine::Machine;
 use report::{ANSWERS, PICTURE, Page, WAVE};
 use script::command::Command;
 use script::names;
+use std::io::{Read, Write};
 use text::ppm;
 use weave::Weave;
 
@@ -32,11 +33,17 @@ const PICTURE_BYTES: usize = 3145728;
 const ROOM: usize = 65536;
 
 // One tick's signals, or its refusal.
-fn show_tick(p: Page, out: &mut [u8; ROOM], refusal: u32, s: signals::Signals) -> Page
+fn show_tick<W: Write>(
+    p: Page,
+    out: &mut [u8; ROOM],
+    said: &mut W,
+    refusal: u32,
+    s: signals::Signals,
+) -> Page
     ensures page { result ≡ (tick_shown p out.old refusal s).page }
     ensures bytes { out.new ≡ (tick_shown p out.old refusal s).bytes }
 {
-    let page = report::space(p, out);
+    let page = report::space(p, out, said);
     if refusal == 0 {
         return report::tick(page, out, s);
     }
@@ -44,7 +51,7 @@ fn show_tick(p: Page, out: &mut [u8; ROOM], refusal: u32, s: signals::Signals) -
 }
 
 // Ticks that are shown, each as the form shows it; they end where one is refused.
-fn ticks(d: Desk, memory: &[u8], out: &mut [u8; ROOM], count: u32) -> Desk
+fn ticks<W: Write>(d: Desk, memory: &[u8], out: &mut [u8; ROOM], said: &mut W, count: u32) -> Desk
     requires { Sound d.done.machine.regs d.done.machine.generator }
     ensures done { result.done ≡ run_done d.done.machine d.done.memory memory.now count }
     ensures sound { Sound result.done.machine.regs result.done.machine.generator }
@@ -66,7 +73,7 @@ fn ticks(d: Desk, memory: &[u8], out: &mut [u8; ROOM], count: u32) -> Desk
         let refusal = next.refusal;
         let signals = next.signals;
         generator = next.next;
-        page = show_tick(page, out, refusal, signals);
+        page = show_tick(page, out, said, refusal, signals);
         if refusal != 0 {
             let machine = Machine { regs, generator };
             let done = Done {
@@ -104,11 +111,12 @@ fn show_run(p: Page, out: &mut [u8; ROOM], done: u32, refusal: u32) -> Page
 }
 
 // `picture LENGTH`: a picture that was drawn is shown, and its size kept.
-fn show_picture(
+fn show_picture<W: Write>(
     p: Page,
     m: Machine,
     picture: &[u8; PICTURE_BYTES],
     out: &mut [u8; ROOM],
+    said: &mut W,
     refusal: u32,
     length: u32,
 ) -> Page
@@ -122,16 +130,17 @@ fn show_picture(
     page.height = base::choose(refusal == 0, size.height, page.height);
     page.half = base::choose(refusal == 0, size.half, page.half);
     let bytes = room::lent(picture, length as usize);
-    questions::show_bytes(page, out, refusal, bytes)
+    questions::show_bytes(page, out, said, refusal, bytes)
 }
 
 // What is shown of a command that has done something, or has only asked.
-fn show_result(
+fn show_result<W: Write>(
     p: Page,
     c: Command,
     done: Done,
     picture: &[u8; PICTURE_BYTES],
     out: &mut [u8; ROOM],
+    said: &mut W,
 ) -> Page
     requires { Sound done.machine.regs done.machine.generator }
     ensures page { result ≡ (result_shown p c done picture.now out.old).page }
@@ -146,10 +155,10 @@ fn show_result(
     if kind == names::DRAWS_PICTURE {
         let left = c.left;
         let values = left.values;
-        return show_picture(p, machine, picture, out, refusal, values[0]);
+        return show_picture(p, machine, picture, out, said, refusal, values[0]);
     }
     if kind == names::ONLY_ASKS {
-        return questions::answer(p, c, machine, out);
+        return questions::answer(p, c, machine, out, said);
     }
     report::verdict(p, out, refusal)
 }
@@ -162,12 +171,13 @@ fn is_shown(form: u32, name: u32) -> bool
 }
 
 // A good command.
-fn do_command(
+fn do_command<W: Write>(
     d: Desk,
     c: Command,
     memory: &mut [u8; MEMORY],
     picture: &mut [u8; PICTURE_BYTES],
     out: &mut [u8; ROOM],
+    said: &mut W,
 ) -> Desk
     requires { Sound d.done.machine.regs d.done.machine.generator }
     ensures done { result.done ≡ done_of c d.done.machine d.done.memory memory.old (length picture.old) }
@@ -183,21 +193,22 @@ fn do_command(
     let shown = base::first(is_shown(p.form, c.name), kind, 0);
     if shown == names::RUNS_TICKS {
         let lent = room::lent(memory, before.memory as usize);
-        return ticks(d, lent, out, script::ticks_of(c));
+        return ticks(d, lent, out, said, script::ticks_of(c));
     }
     let machine = before.machine;
     let done = changes::apply(c, machine, before.memory, memory, picture);
-    let page = show_result(p, c, done, picture, out);
+    let page = show_result(p, c, done, picture, out, said);
     Desk { done, page }
 }
 
 // A whole line of the script.
-fn do_line(
+fn do_line<W: Write>(
     d: Desk,
     line: &[u8],
     memory: &mut [u8; MEMORY],
     picture: &mut [u8; PICTURE_BYTES],
     out: &mut [u8; ROOM],
+    said: &mut W,
 ) -> Desk
     requires { Sound d.done.machine.regs d.done.machine.generator }
     ensures done { result.done ≡ line_done line.now d.done memory.old (length picture.old) }
@@ -209,33 +220,38 @@ fn do_line(
 {
     let done = d.done;
     let before = d.page;
-    let page = report::next_line(before, out);
+    let page = report::next_line(before, out, said);
     if script::is_skipped(line) {
         return Desk { done, page };
     }
     let c = script::line_command(line, done.memory);
     if c.fault == 0 {
-        return do_command(Desk { done, page }, c, memory, picture, out);
+        return do_command(Desk { done, page }, c, memory, picture, out, said);
     }
     let page = report::fault(page, out, c.fault);
     Desk { done, page }
 }
 
 // The last time of a waveform, after its last tick; what waits is written.
-fn close(p: Page, out: &mut [u8; ROOM]) -> Page
+fn close<W: Write>(p: Page, out: &mut [u8; ROOM], said: &mut W) -> Page
     ensures page { result ≡ (close_shown p out.old).page }
     ensures bytes { out.new ≡ (close_shown p out.old).bytes }
 {
     if p.form == WAVE {
         let end = text::put_count(out, p.waiting, b"#", p.ticks);
         let page = report::turn(p, end);
-        return report::write(page, out);
+        return report::write(page, out, said);
     }
-    report::write(p, out)
+    report::write(p, out, said)
 }
 
 // An interlaced picture's rows from the top, each put over the one before it and written.
-fn write_woven(p: Page, picture: &[u8; PICTURE_BYTES], out: &mut [u8; ROOM])
+fn write_woven<W: Write>(
+    p: Page,
+    picture: &[u8; PICTURE_BYTES],
+    out: &mut [u8; ROOM],
+    drawn: &mut W,
+)
     requires { 0 < p.height }
     ensures bytes { out.new ≡ woven_shown (page_weave p) picture.now out.old p.height }
 {
@@ -248,28 +264,34 @@ fn write_woven(p: Page, picture: &[u8; PICTURE_BYTES], out: &mut [u8; ROOM])
     let mut row: u64 = 0;
     while row < p.height {
         let count = weave::put_row(out, picture, w, row);
-        io::write_all(1, room::lent(out, count));
+        let _ = drawn.write_all(room::lent(out, count));
         row += 1;
     }
 }
 
-// A picture drawn, as a PPM on standard output, where an interlaced one is woven; or a line on standard error.
-fn write_picture(p: Page, picture: &[u8; PICTURE_BYTES], out: &mut [u8; ROOM])
+// A picture drawn, as a PPM, where an interlaced one is woven; or it is said that there is none.
+fn write_picture<S: Write, W: Write>(
+    p: Page,
+    picture: &[u8; PICTURE_BYTES],
+    out: &mut [u8; ROOM],
+    said: &mut S,
+    drawn: &mut W,
+)
     ensures bytes { out.new ≡ ppm_shown p picture.now out.old }
 {
     if (p.width == 0) | (p.height == 0) {
-        io::write_all(2, b"draw: no picture was drawn\n");
+        let _ = said.write_all(b"draw: no picture was drawn\n");
         return;
     }
     let head = ppm::put_ppm(out, 0, p.width, p.height);
-    io::write_all(1, room::lent(out, head));
+    let _ = drawn.write_all(room::lent(out, head));
     if p.half == 0 {
         let pixels = base::product(p.width, p.height);
         let size = picture::bytes_for(pixels);
-        io::write_all(1, room::lent(picture, size as usize));
+        let _ = drawn.write_all(room::lent(picture, size as usize));
         return;
     }
-    write_woven(p, picture, out);
+    write_woven(p, picture, out, drawn);
 }
 
 // Before a script's first line.
@@ -289,20 +311,29 @@ fn first_desk(p: Page) -> Desk
 }
 
 // The whole script.
-fn do_script(
+fn do_script<R: Read, W: Write>(
     p: Page,
+    script: &mut R,
     memory: &mut [u8; MEMORY],
     picture: &mut [u8; PICTURE_BYTES],
     out: &mut [u8; ROOM],
+    said: &mut W,
 ) -> Page {
-    let mut piece = io::large_buffer();
+    let mut piece = [0u8; PIECE];
     let mut line = [0u8; LINE];
     let mut desk = first_desk(p);
     let mut reader = input::begin();
     while 0 < reader.turns {
-        reader = input::next(reader, &mut piece, &mut line);
+        reader = input::next(script, reader, &mut piece, &mut line);
         if input::is_line(reader) {
-            desk = do_line(desk, input::line_of(reader, &line), memory, picture, out);
+            desk = do_line(
+                desk,
+                input::line_of(reader, &line),
+                memory,
+                picture,
+                out,
+                said,
+            );
         }
     }
     desk.page
@@ -321,19 +352,24 @@ fn open(form: u32, out: &mut [u8; ROOM]) -> Page
     page
 }
 
-// Reads a script on standard input and writes it in a form. Answers the ticks that were shown. No contract can speak of what is read and
-// written, so the clause bounds a number that is bounded anyway: what it promises is that every script comes to an end.
-pub fn session(form: u32) -> u64
+// Reads a script and says it in a form; the last picture is drawn apart. Answers the ticks that were shown. The clause bounds a number that
+// is bounded anyway: what it promises is that every script comes to an end.
+pub fn session<R: Read, S: Write, W: Write>(
+    form: u32,
+    script: &mut R,
+    said: &mut S,
+    drawn: &mut W,
+) -> u64
     ensures ticks { result ≤ 0xFFFFFFFFFFFFFFFF }
 {
     let mut memory = [0u8; MEMORY];
     let mut picture = [0u8; PICTURE_BYTES];
-    let mut out = io::large_buffer();
+    let mut out = [0u8; ROOM];
     let page = open(form, &mut out);
-    let last = do_script(page, &mut memory, &mut picture, &mut out);
-    let end = close(last, &mut out);
+    let last = do_script(page, script, &mut memory, &mut picture, &mut out, said);
+    let end = close(last, &mut out, said);
     if form == PICTURE {
-        write_picture(end, &picture, &mut out);
+        write_picture(end, &picture, &mut out, said, drawn);
     }
     end.ticks
 }

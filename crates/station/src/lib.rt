@@ -1,4 +1,4 @@
-// What the station's host program calls from C (01): the comparison of checksums, and one field of a sheet. include/station.h declares both.
+// What the station's host program calls (01): the comparison of checksums, and one field of a sheet. `station_c` exports both to C.
 #![tactic(auto)]
 
 ghost use Rattle.std.specs.Prelude.{◌≡◌};
@@ -14,8 +14,7 @@ fn numbered(refusal: u32, value: u32) -> u64
 }
 
 // 1 where two checksums of nine bytes are equal, 0 where they differ.
-#[unsafe(no_mangle)]
-pub extern "C" fn station_compare_checksums(a: &[u8], b: &[u8]) -> u64
+pub fn station_compare_checksums(a: &[u8], b: &[u8]) -> u64
     ensures number { result ≡ checksums_number a.now b.now }
 {
     let compared = vault::compare(a, b);
@@ -23,8 +22,7 @@ pub extern "C" fn station_compare_checksums(a: &[u8], b: &[u8]) -> u64
 }
 
 // The value of one field of a whole good sheet.
-#[unsafe(no_mangle)]
-pub extern "C" fn station_sheet_field(sheet: &[u8], tag: u32) -> u64
+pub fn station_sheet_field(sheet: &[u8], tag: u32) -> u64
     ensures number { result ≡ field_number sheet.now tag }
 {
     let answer = field::field(sheet, tag);
