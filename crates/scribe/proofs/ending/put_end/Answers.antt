@@ -1,0 +1,12 @@
+-- `scribe::ending::put_end` meets its contract: the text in the code is that of its numbers, by computation. Assumes nothing.
+use mathlib.Core.Path.{refl}
+use Rattle.text.specs.Decimal.{places, decimal_text}
+use Rattle.scribe.specs.Ending.{end_text}
+use Rattle.scribe.proofs.ending.Either.{either_put}
+use Rattle.scribe.proofs.ending.put_end.Goals as goal
+
+pub returns : goal.returns
+unfolding places decimal_text
+returns c =
+    let rest_of_it = either_put end_text _ _ refl refl c.args.interlaced _ _ _ _ (c.put_either.ensures.place, c.put_either.ensures.bytes) in
+    record { place = rest_of_it.0; bytes = rest_of_it.1 }
