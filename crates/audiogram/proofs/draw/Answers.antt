@@ -1,5 +1,4 @@
 -- `audiogram::draw` meets its contract: one byte of the picture more at each turn, and behind it the memory as it was. Assumes nothing.
-use Prim.Native.Nat.{◌-◌}
 use mathlib.Core.Path.{ap}
 use native.Mathlib.Omega.{arith}
 use lib.ListN.{length}

@@ -1,5 +1,4 @@
 -- `colour::masked_palette` meets its contract. The invariant: each entry before `pixel` is that pixel's colour. Assumes nothing.
-use Prim.Native.Nat.{◌-◌}
 use mathlib.Core.Path.{refl, ◌∙◌}
 use native.Mathlib.Omega.{arith}
 use lib.ListN.{length-set}

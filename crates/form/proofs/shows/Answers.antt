@@ -1,5 +1,4 @@
 -- `form::shows` meets its contract: one label more at each turn. Assumes nothing.
-use Prim.Native.Nat.{◌-◌}
 use native.Mathlib.Omega.{arith}
 use Rattle.form.proofs.Cases.{form_none, form_more, form_whole}
 use Rattle.form.proofs.shows.Goals as goal

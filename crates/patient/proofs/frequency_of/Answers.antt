@@ -1,5 +1,4 @@
 -- `patient::frequency_of` meets its contract: one frequency more at each turn. Assumes nothing.
-use Prim.Native.Nat.{◌-◌}
 use mathlib.Core.Path.{◌≡◌}
 use native.Mathlib.Omega.{arith}
 use Rattle.patient.proofs.Cases.{found_none, found_next}

@@ -1,5 +1,4 @@
 -- `room::put` meets its contract: one byte more at each turn.
-use Prim.Native.Nat.{◌-◌}
 use mathlib.Core.Path.{◌≡◌, refl, ◌∙◌, ap}
 use lib.ListN.{length, get_or}
 use Rattle.room.proofs.Laying.{laid_none, laid_next, laid_length, put_past, put_short, put_whole}

@@ -4,7 +4,7 @@ use mathlib.Core.Bool.{Bool, true, false, cond}
 use mathlib.Core.Path.{◌≡◌}
 use native.Mathlib.Nat.{mul-le-mul}
 use native.Mathlib.Omega.{arith}
-use Rattle.units.specs.Parameters.{in_field, half_ticks, halves_in_field, fields, field_ticks, displayed_lines}
+use Rattle.units.specs.Parameters.{in_field, half_ticks, halves_in_field, field_ticks, displayed_lines}
 use Rattle.lines.specs.Lines.{field_visible}
 use Rattle.lines.proofs.Halves.{visible_most}
 use Rattle.screen.specs.Limits.{Bounded}

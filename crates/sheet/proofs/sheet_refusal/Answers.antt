@@ -1,5 +1,4 @@
 -- `sheet::sheet_refusal` meets its contract. The loop keeps: the refusal held, or else that of the fields left, is the sheet's. Assumes nothing.
-use Prim.Native.Nat.{◌-◌}
 use mathlib.Core.Path.{refl}
 use native.Mathlib.Omega.{arith}
 use Rattle.sheet.proofs.Cases.{judged, judged_all}

@@ -1,5 +1,5 @@
 -- `sheet::sheet_values` meets its contract. The loop keeps: the values so far, with those left stored behind them, are the sheet's. Assumes nothing.
-use Prim.Native.Nat.{◌+◌, ◌-◌, ◌*◌}
+use Prim.Native.Nat.{◌+◌, ◌*◌}
 use mathlib.Core.Path.{◌≡◌, refl}
 use native.Mathlib.Omega.{arith}
 use lib.ListN.{drop}

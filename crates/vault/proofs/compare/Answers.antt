@@ -1,6 +1,5 @@
 -- `vault::compare` meets its contract. The loop keeps: what was found, and what is still to be found, is the whole. Assumes nothing.
 use borrow.Author.Tests.{eq-eqb, ne_eqb}
-use Prim.Native.Nat.{◌-◌}
 use mathlib.Core.Path.{refl}
 use native.Mathlib.Omega.{arith}
 use Rattle.vault.proofs.Cases.{looked, finished}

@@ -1,5 +1,4 @@
 -- `weave::lay` meets its contract: one byte of the row more at each turn, and behind it the room as it was.
-use Prim.Native.Nat.{◌-◌}
 use mathlib.Core.Path.{◌≡◌, ap}
 use native.Mathlib.Omega.{arith}
 use lib.ListN.{length}

@@ -1,5 +1,4 @@
 -- `words::count_words` meets its contract: the words counted and those that begin in what is left make all.
-use Prim.Native.Nat.{◌-◌}
 use mathlib.Core.Bool.{◌||◌}
 use Rattle.words.proofs.Parting.{count_turn, count_end, one_more}
 use native.Mathlib.Omega.{arith}

@@ -1,5 +1,4 @@
 -- `words::run_end` meets its contract: past each byte of the run, the same is left past it.
-use Prim.Native.Nat.{◌-◌}
 use mathlib.Core.Path.{◌∙◌}
 use Rattle.words.proofs.Parting.{run_more, run_stop, run_end}
 use native.Mathlib.Omega.{arith}

@@ -1,5 +1,4 @@
 -- `marks::ear::is_near` meets its contract: one frequency more at each turn, and the one measured last. Assumes nothing.
-use Prim.Native.Nat.{◌-◌}
 use native.Mathlib.Omega.{arith}
 use Rattle.marks.specs.Near.{near_at}
 use Rattle.marks.proofs.ear.Cases.{ear_none, ear_more, near_whole, last_below}

@@ -1,5 +1,4 @@
 -- `marks::ear::shows` meets its contract: one frequency more at each turn, and the one measured last. Assumes nothing.
-use Prim.Native.Nat.{◌-◌}
 use mathlib.Core.Path.{◌∙◌, ap}
 use native.Mathlib.Omega.{arith}
 use Rattle.marks.specs.Ear.{covered_at}

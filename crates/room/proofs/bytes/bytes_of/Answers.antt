@@ -1,5 +1,4 @@
 -- `room::bytes::bytes_of` meets its contract: one number more at each turn.
-use Prim.Native.Nat.{◌-◌}
 use mathlib.Core.Path.{◌≡◌}
 use native.Mathlib.Nat.{zero-add}
 use Rattle.room.proofs.Laying.{laid_none, laid_next}

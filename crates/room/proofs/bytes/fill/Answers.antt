@@ -1,5 +1,5 @@
 -- `room::bytes::fill` meets its contract: one byte more at each turn, its value kept exactly.
-use Prim.Native.Nat.{◌+◌, ◌*◌, ◌%◌, ◌-◌}
+use Prim.Native.Nat.{◌+◌, ◌*◌, ◌%◌}
 use mathlib.Core.Path.{◌≡◌, refl, ◌∙◌, ap}
 use lib.ListN.{length}
 use Rattle.room.proofs.Laying.{laid_none, laid_next, laid_length}

@@ -1,5 +1,4 @@
 -- `scribe::pokes::put_poke` meets its contract: each turn puts the texts of one byte more.
-use Prim.Native.Nat.{◌-◌}
 use mathlib.Core.Path.{◌≡◌, refl}
 use native.Mathlib.Omega.{arith}
 use lib.ListN.{length}

@@ -1,5 +1,4 @@
 -- `scribe::settings::put_settings` meets its contract: each turn puts one line more.
-use Prim.Native.Nat.{◌-◌}
 use mathlib.Core.Path.{◌≡◌, refl, ◌∙◌, ap}
 use mathlib.Core.Bool.{Bool, true, false}
 use native.Mathlib.Omega.{arith}

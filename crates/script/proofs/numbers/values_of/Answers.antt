@@ -1,5 +1,4 @@
 -- `script::numbers::values_of` meets its contract: the words from the place reached on are those from k on.
-use Prim.Native.Nat.{◌-◌}
 use mathlib.Core.Path.{◌≡◌, refl}
 use Rattle.script.proofs.numbers.Cases.{word_here, words_next, fault_next, values_next, fault_none, values_none, words_all}
 use native.Mathlib.Omega.{arith}

@@ -1,5 +1,4 @@
 -- `sheet::writer::is_over` meets its contract. The loop keeps: what was found, or what is still to be found, is the whole. Assumes nothing.
-use Prim.Native.Nat.{◌-◌}
 use mathlib.Core.Path.{refl}
 use native.Mathlib.Omega.{arith}
 use Rattle.sheet.proofs.writer.Cases.{tested, finished}

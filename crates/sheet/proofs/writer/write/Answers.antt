@@ -1,5 +1,4 @@
 -- `sheet::writer::write` meets its contract. The loop keeps: the room, with the fields left stored behind those that stand, is the whole. Assumes nothing.
-use Prim.Native.Nat.{◌-◌}
 use mathlib.Core.Path.{◌≡◌, refl, ◌∙◌, sym}
 use native.Mathlib.Omega.{arith}
 use Rattle.sheet.specs.Writer.{write_refusal}

@@ -1,5 +1,4 @@
 -- `waveform::wide_wires::bus_text` meets its contract: one bit more at each turn.
-use Prim.Native.Nat.{◌-◌}
 use mathlib.Core.Path.{◌≡◌, ◌∙◌}
 use native.Mathlib.Omega.{arith}
 use Rattle.room.proofs.Laying.{laid_none, laid_next}

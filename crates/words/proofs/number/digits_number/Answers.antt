@@ -1,6 +1,4 @@
 -- `words::number::digits_number` meets its contract: what the loop knows of the value and of the digits passed is kept by each digit.
-use Prim.Native.Nat.{◌-◌}
-use Rattle.words.specs.Numbers as spec
 use Rattle.words.proofs.number.Digits.{reaches_first, reaches_next, strange_next, number_strange, number_large, number_good}
 use native.Mathlib.Omega.{arith}
 use Rattle.words.proofs.number.digits_number.Goals as goal

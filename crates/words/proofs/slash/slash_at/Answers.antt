@@ -1,5 +1,4 @@
 -- `words::slash::slash_at` meets its contract: the first `/` from the place reached on is the first of all.
-use Prim.Native.Nat.{◌-◌}
 use mathlib.Core.Path.{sym, ◌∙◌}
 use Rattle.words.proofs.slash.Cases.{slash_here, slash_first, slash_on, slash_end}
 use native.Mathlib.Omega.{arith}
