@@ -1,5 +1,5 @@
 /* What a station's host program calls: checksums compared, and one field read from a screen sheet.
-   The crate `station` promises each answer for every input; link libstation.a, which `rt staticlib station` writes.
+   The crates `station` and `station_c` promise each answer for every input; link libstation.a, which host/run.sh makes.
 
    Each call answers one 64-bit number, the refusal above and the value below:
 
