@@ -4,6 +4,8 @@ use mathlib.Core.Path.{◌≡◌, refl, sym, ◌∙◌, ap}
 use mathlib.Core.Bool.{Bool, true, false, cond, ◌||◌}
 use mathlib.Core.List.{List}
 use native.Mathlib.Omega.{arith}
+use Rattle.std.specs.Prelude.{Option, Some, None}
+use Rattle.std.specs.Bool.{then_some}
 use Rattle.base.proofs.Bools.{neither_holds}
 use Rattle.marks.specs.Near.{near}
 use Rattle.marks.proofs.ear.Near.{far_hidden}
@@ -54,10 +56,29 @@ module _ (n : Bool) (right left : List ℕ) (i : ℕ) where
       go true e = rw (holds_next i j h n, e) (ap (entry_at right left) (pixel_next i j h n e))
       go false e = rw (holds_next i j h n, e)
 
-  pub byte_held : holds n (4 * i) ≡ true → four_from right left (pixel_of n (4 * i)) ≡ byte_at n right left i
+  byte_held : holds n (4 * i) ≡ true → four_from right left (pixel_of n (4 * i)) ≡ byte_at n right left i
   unfolding byte_at entry_of
   byte_held e = rw (entry_next 1 (omega arith), entry_next 2 (omega arith), entry_next 3 (omega arith), e)
 
-  pub byte_paper : holds n (4 * i) ≡ false → 0 ≡ byte_at n right left i
+  byte_paper : holds n (4 * i) ≡ false → 0 ≡ byte_at n right left i
   unfolding byte_at entry_of
   byte_paper e = rw (entry_next 1 (omega arith), entry_next 2 (omega arith), entry_next 3 (omega arith), e)
+
+  -- by what the byte was found to hold
+  pub byte_some : (p : Point) (b : ℕ) → Some p ≡ then_some (holds n (4 * i)) (pixel_of n (4 * i)) → b ≡ four_from right left p → b ≡ byte_at n right left i
+  byte_some p b f e = go (holds n (4 * i)) refl f
+    where
+      go : (h : Bool) → holds n (4 * i) ≡ h → Some p ≡ then_some h (pixel_of n (4 * i)) → b ≡ byte_at n right left i
+      go true h k = let q : p ≡ pixel_of n (4 * i) = cc in e ∙ rw q (byte_held h)
+      go false h k = absurd (cc)
+
+  pub byte_none : ◌≡◌ {A = Option Point} None (then_some (holds n (4 * i)) (pixel_of n (4 * i))) → 0 ≡ byte_at n right left i
+  byte_none f = go (holds n (4 * i)) refl f
+    where
+      go : (h : Bool) → holds n (4 * i) ≡ h → ◌≡◌ {A = Option Point} None (then_some h (pixel_of n (4 * i))) → 0 ≡ byte_at n right left i
+      go true h k = absurd (cc)
+      go false h k = byte_paper h
+
+-- what a byte was found to hold, of its place
+pub four_found : (n : Bool) (i : ℕ) (held : Bool) (p : Point) (r : Option Point) → r ≡ then_some held p → held ≡ holds n (4 * i) → p ≡ pixel_of n (4 * i) → r ≡ then_some (holds n (4 * i)) (pixel_of n (4 * i))
+four_found n i held p r e f g = e ∙ rw (f, g)

@@ -90,20 +90,6 @@ module _ (n : Bool) (p : Point) (h : p.x < width) (l : p.y < height) where
 
 -- ---- the four places of a byte, in bytes: 1,024 to a row, 160 to a line, 92 above the chart
 
-pub size_most : (n : Bool) → size n ≤ 77824
-size_most false = omega arith
-size_most true = omega arith
-
--- a byte's field and its number there
-pub spot_fields : (n : Bool) (i : ℕ) → n ≡ true → (i / 1024 % 2 ≡ field_at n (4 * i)) × (4 * (i / 1024 / 2 * 1024 + i % 1024) ≡ number_at n (4 * i))
-spot_fields n i e =
-    let row : 4 * i / row_pixels ≡ i / 1024 = omega arith in
-    let rest : 4 * i % row_pixels ≡ 4 * (i % 1024) = omega arith in
-    rw (e, row, rest) (refl, omega arith)
-
-pub spot_one : (n : Bool) (i : ℕ) → n ≡ false → (0 ≡ field_at n (4 * i)) × (4 * i ≡ number_at n (4 * i))
-spot_one n i e = rw e (omega arith, omega arith)
-
 -- what it holds, of its field and number
 module _ (n : Bool) (i f m : ℕ) (e : f ≡ field_at n (4 * i)) (g : 4 * m ≡ number_at n (4 * i)) where
   leb_in : leb (92 * f) m ≡ leb (above f) (4 * m)

@@ -5,34 +5,40 @@ ghost use Rattle.audiogram.specs.Entry.{entry_at, form_entry, paper_entry};
 
 use marks::ear;
 use marks::points::Point;
+use patient::thresholds::Chart;
 
-// The palette entry of a pixel: 1 right ear, 2 left ear, 3 form, 0 paper. The right ear lies over the left.
-pub fn entry_at(right: &[u8; 11], left: &[u8; 11], p: Point) -> u8
-    ensures entry { result ≡ entry_at right.now left.now p }
+// The palette entry where no ear shows: 3 form, 0 paper.
+fn form_or_paper(p: Point) -> u8
+    ensures entry { result ≡ cond (form p) form_entry paper_entry }
     ensures bound { result ≤ 3 }
 {
-    if ear::shows(true, right, p) {
+    if form::shows(p) { 3 } else { 0 }
+}
+
+// The palette entry of a pixel: 1 right ear, 2 left ear, or else the form or paper. The right ear lies over the left.
+// As it is: an entry is a number and no enum: picture memory holds it as two bits, and the definition `entry_at` says which.
+#[tactic(auto, unfolding(crate::specs::Entry::entry_at))]
+pub fn entry_at(chart: &Chart, p: Point) -> u8
+    ensures entry { result ≡ entry_at chart.now.right chart.now.left p }
+    ensures bound { result ≤ 3 }
+{
+    if ear::shows(true, &chart.right, p) {
         return 1;
     }
-    if ear::shows(false, left, p) {
+    if ear::shows(false, &chart.left, p) {
         return 2;
     }
-    if form::shows(p) {
-        return 3;
-    }
-    0
+    form_or_paper(p)
 }
 
 // The same where an ear may be near; far from both the form alone is asked.
-pub fn entry_near(near: bool, right: &[u8; 11], left: &[u8; 11], p: Point) -> u8
-    ensures entry { result ≡ cond near (entry_at right.now left.now p) (cond (form p) form_entry paper_entry) }
+pub fn entry_near(near: bool, chart: &Chart, p: Point) -> u8
+    ensures entry { result ≡ cond near (entry_at chart.now.right chart.now.left p) (cond (form p) form_entry paper_entry) }
     ensures bound { result ≤ 3 }
 {
     if near {
-        return entry_at(right, left, p);
+        entry_at(chart, p)
+    } else {
+        form_or_paper(p)
     }
-    if form::shows(p) {
-        return 3;
-    }
-    0
 }

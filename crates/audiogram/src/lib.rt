@@ -4,12 +4,13 @@
 
 mod entry;
 
-ghost use Rattle.std.specs.Prelude.{◌≡◌, ◌*◌, ◌<◌, ◌≤◌, min};
+ghost use Rattle.std.specs.Prelude.{◌≡◌, ◌*◌, ◌<◌, ◌≤◌, IfSome};
+ghost use Rattle.std.specs.Bool.{then_some};
 ghost use Rattle.audiogram.specs.Places.{field_at, number_at, holds, pixel_of};
 ghost use Rattle.audiogram.specs.Picture.{four_from, byte_at, drawn, size};
 
 use marks::ear;
-use marks::points::{Point, pick};
+use marks::points::Point;
 use patient::thresholds::Chart;
 
 // The bytes of the picture, for one field or for two.
@@ -45,75 +46,54 @@ fn spot_at(interlaced: bool, i: u32) -> Spot
     }
 }
 
-// What a byte holds: four pixels of a line of the chart, from the first on, or none.
-#[derive(Clone, Copy)]
-struct Four {
-    held: bool,
-    x: u16,
-    y: u16,
-}
-
-// What byte i holds: a line has 160 bytes, and 92 of the second field lie above the chart.
-fn four_at(interlaced: bool, i: u32) -> Four
+// The first of the four pixels of a line of the chart that byte i holds, if it holds any: a line has 160 bytes, and 92 of the second field lie above
+// the chart.
+fn four_at(interlaced: bool, i: u32) -> Option<Point>
     requires { i < size interlaced }
-    ensures held { result.held ≡ holds interlaced (4 * i) }
-    ensures first { record { x = result.x; y = result.y } ≡ pixel_of interlaced (4 * i) }
-    ensures bound { result.x ≤ 636 }
+    ensures first { result ≡ then_some (holds interlaced (4 * i)) (pixel_of interlaced (4 * i)) }
+    ensures bound { IfSome result (λ p. p.x ≤ 636) }
 {
     let spot = spot_at(interlaced, i);
     let above = 92 * spot.field as u32;
-    let past = base::less(spot.number, above);
+    let past = spot.number.saturating_sub(above);
     let line = (past / 160) as u16;
-    Four {
-        held: (above <= spot.number) & (line < pick(interlaced, 240, 480)),
+    let held = (above <= spot.number) & (line < base::choose(interlaced, 240, 480));
+    held.then_some(Point {
         x: (past % 160 * 4) as u16,
-        y: pick(interlaced, 2 * line + spot.field, line),
-    }
+        y: base::choose(interlaced, 2 * line + spot.field, line),
+    })
 }
 
-// Four pixels of one line, from (x, y) on, in a byte.
-fn four_from(right: &[u8; 11], left: &[u8; 11], x: u16, y: u16) -> u8
-    requires { x ≤ 636 }
-    ensures byte { result ≡ four_from right.now left.now (record { x = x; y = y }) }
+// Four pixels of one line, from p on, in a byte.
+fn four_from(chart: &Chart, p: Point) -> u8
+    requires { p.x ≤ 636 }
+    ensures byte { result ≡ four_from chart.now.right chart.now.left p }
 {
-    let near = ear::is_near(right, Point { x, y }) | ear::is_near(left, Point { x, y });
-    let first = entry::entry_near(near, right, left, Point { x, y });
-    let second = entry::entry_near(near, right, left, Point { x: x + 1, y });
-    let third = entry::entry_near(near, right, left, Point { x: x + 2, y });
-    let fourth = entry::entry_near(near, right, left, Point { x: x + 3, y });
+    let near = ear::is_near(&chart.right, p) | ear::is_near(&chart.left, p);
+    let first = entry::entry_near(near, chart, p);
+    let second = entry::entry_near(near, chart, Point { x: p.x + 1, ..p });
+    let third = entry::entry_near(near, chart, Point { x: p.x + 2, ..p });
+    let fourth = entry::entry_near(near, chart, Point { x: p.x + 3, ..p });
     first + 4 * second + 16 * third + 64 * fourth
 }
 
 // Byte i of the picture: four pixels of the chart, or paper.
-fn byte_at(right: &[u8; 11], left: &[u8; 11], interlaced: bool, i: usize) -> u8
+fn byte_at(chart: &Chart, interlaced: bool, i: usize) -> u8
     requires { i < size interlaced }
-    ensures byte { result ≡ byte_at interlaced right.now left.now i }
+    ensures byte { result ≡ byte_at interlaced chart.now.right chart.now.left i }
 {
-    let four = four_at(interlaced, i as u32);
-    if four.held {
-        return four_from(right, left, four.x, four.y);
+    match four_at(interlaced, i as u32) {
+        Some(first) => four_from(chart, first),
+        None => 0,
     }
-    0
-}
-
-// The bytes of the picture that a memory has room for.
-fn room_for(interlaced: bool, room: usize) -> usize
-    ensures smaller { result ≡ min room (size interlaced) }
-{
-    let whole = size_of(interlaced);
-    if room < whole { room } else { whole }
 }
 
 // Draws the chart into the first bytes of a memory: a shorter one gets what it has room for, a longer one keeps the rest.
 pub fn draw(chart: Chart, interlaced: bool, memory: &mut [u8])
     ensures bytes { memory.new ≡ drawn interlaced chart.right chart.left memory.old }
 {
-    let right = chart.right;
-    let left = chart.left;
-    let end = room_for(interlaced, memory.len());
-    let mut i: usize = 0;
-    while i < end {
-        memory[i] = byte_at(&right, &left, interlaced, i);
-        i += 1;
+    let end = memory.len().min(size_of(interlaced));
+    for (i, byte) in memory[..end].iter_mut().enumerate() {
+        *byte = byte_at(&chart, interlaced, i);
     }
 }

@@ -1,10 +1,11 @@
 -- Laws of a run of numbers, of a count and of a test over one. Assumes nothing.
 use Prim.Native.Nat.{ℕ, zero, suc, ◌+◌, ◌<◌}
-use mathlib.Core.Path.{◌≡◌, refl, ap}
+use mathlib.Core.Path.{◌≡◌, refl, sym, ap, ◌∙◌}
 use mathlib.Core.List.{List, ◌∷◌, ◌++◌}
 use native.Mathlib.Nat.{add-zero, add-suc, suc-add, zero-add}
 use native.Mathlib.Omega.{arith}
 use lib.ListN.{length, get_or}
+use Rattle.std.proofs.lemmas.List.{ext_get_or}
 use Rattle.base.specs.Count.{run}
 
 -- a run has as many entries as it counts, and each is the function's
@@ -18,6 +19,10 @@ unfolding run
 run_entry f from zero k other h = absurd (omega arith)
 run_entry f from (suc n) zero other h = rw add-zero
 run_entry f from (suc n) (suc k) other h = rw (add-suc, ← suc-add) (run_entry f (suc from) n k other (omega arith))
+
+-- a list of a function's entries is its run
+pub run_is : (f : ℕ → ℕ) (n : ℕ) (list : List ℕ) → length list ≡ n → ((k : ℕ) → k < n → get_or list k 0 ≡ f k) → list ≡ run f 0 n
+run_is f n list e h = ext_get_or 0 list (run f 0 n) (e ∙ sym (run_length f 0 n)) (λ k l. h k (omega arith) ∙ sym (run_entry f 0 n k 0 (omega arith) ∙ ap f (zero-add k)))
 
 -- two runs of one function, one after the other
 pub run_append : {A : Type 0} (f : ℕ → A) (from m n : ℕ) → run f from (m + n) ≡ run f from m ++ run f (from + m) n

@@ -8,9 +8,7 @@ ghost use Rattle.generator.specs.Sound.{Sound};
 
 use generator::{Generator, Ticked};
 use machine::Machine;
-use pixel::Sums;
 use registers::Registers;
-use signals::Signals;
 
 // A frame of the interlaced screen and ten ticks.
 const CALLS: u64 = 108;
@@ -35,60 +33,37 @@ fn lent_tick(r: Registers, mut g: Generator, memory: &[u8]) -> Ticked
     }
 }
 
-fn same_record(a: Generator, b: Generator) -> bool {
-    let x: Sums = a.sums;
-    let y: Sums = b.sums;
-    let sums = (x.red == y.red) & (x.green == y.green) & (x.blue == y.blue);
-    let line = (a.second == b.second) & (a.half.0 == b.half.0) & (a.at.0 == b.at.0);
-    let place = line & (a.seen.0 == b.seen.0);
-    place & (a.held == b.held) & (a.asked == b.asked) & sums
-}
-
-fn same_signals(a: Signals, b: Signals) -> bool {
-    let x = a.dots;
-    let y = b.dots;
-    let first = (x[0].colour == y[0].colour) & (x[1].colour == y[1].colour);
-    let dots = first & (x[2].colour == y[2].colour) & (x[3].colour == y[3].colour);
-    let pulses = (a.sync == b.sync) & (a.vsync == b.vsync) & (a.inactive == b.inactive);
-    let asked = (a.blank == b.blank) & (a.request == b.request) & (a.transfer == b.transfer);
-    pulses & asked & (a.address == b.address) & dots
-}
-
 // Two answers to one call are the same, and a refused call leaves the record before it.
 fn same(before: Generator, a: Ticked, b: Ticked) -> bool {
-    let one = a.next;
-    let other = b.next;
-    let signals = same_signals(a.signals, b.signals);
-    let kept = (a.refusal == 0) | same_record(one, before);
-    (a.refusal == b.refusal) & signals & same_record(one, other) & kept
+    (a == b) & ((a.refusal == 0) | (a.next == before))
 }
 
 // A write that fails is not told of.
-fn say(out: &impl Print, name: &str, calls: u64, accepted: u64, unlike: u64) {
-    let _ = println!(out; "{name}: {calls} calls, {accepted} accepted, {unlike} unlike");
+fn say(out: &impl Print, name: &str, accepted: u64, unlike: u64) {
+    let _ = println!(out; "{name}: {CALLS} calls, {accepted} accepted, {unlike} unlike");
 }
 
 // Ticks both ways from one record, and says how it went.
+#[tactic(auto, using(generator::proofs::Kept::tick_sound))]
 fn run(out: &impl Print, name: &str, r: Registers, g: Generator, memory: &[u8])
     requires { Sound r g }
 {
     let mut lent = g;
     let mut kept = g;
-    let mut calls: u64 = 0;
     let mut accepted: u64 = 0;
     let mut unlike: u64 = 0;
-    while calls < CALLS {
+    for _ in 0..CALLS {
         let one = lent_tick(r, lent, memory);
         let other = generator::tick(r, kept, memory);
         accepted += (one.refusal == 0) as u64;
         unlike += !same(lent, one, other) as u64;
         lent = one.next;
         kept = other.next;
-        calls += 1;
     }
-    say(out, name, calls, accepted, unlike);
+    say(out, name, accepted, unlike);
 }
 
+#[tactic(auto, using(machine::proofs::Soundness::write_sound))]
 fn write(m: Machine, address: u32, value: u32) -> Machine
     requires { Sound m.regs m.generator }
     ensures sound { Sound result.regs result.generator }
@@ -99,20 +74,19 @@ fn write(m: Machine, address: u32, value: u32) -> Machine
 
 // Registers written from an address on, one after the other.
 fn writes(before: Machine, address: u32, values: &[u32]) -> Machine
-    requires sound_2 { Sound before.regs before.generator }
-    requires values_bound { address + length values.now < 4096 }
+    requires sound { Sound before.regs before.generator }
+    requires fits { address + length values.now < 4096 }
     ensures sound { Sound result.regs result.generator }
 {
     let mut m = before;
-    let mut k: usize = 0;
-    while k < values.len() {
-        m = write(m, address + k as u32, values[k]);
-        k += 1;
+    for (k, value) in values.iter().enumerate() {
+        m = write(m, address + k as u32, *value);
     }
     m
 }
 
 // A screen from the beginning, with sixteen colours and a full mask, under a control word.
+#[tactic(auto, using(machine::proofs::Soundness::beginning_sound))]
 fn started(screen: [u32; 14], control: u32) -> Machine
     ensures sound { Sound result.regs result.generator }
 {

@@ -1,13 +1,13 @@
 // A machine's calls with the one condition beside each: the beginning, a write, ticks, its picture's size and its nine checksum bytes.
 #![tactic(auto)]
 
-ghost use Rattle.std.specs.Prelude.{◌≡◌, cond, ◌<◌, min};
+ghost use Rattle.std.specs.Prelude.{◌≡◌, cond, ◌<◌};
 ghost use Rattle.control.specs.Control.{running};
 ghost use Rattle.units.specs.Parameters.{halves_to_vdisplay};
 ghost use Rattle.generator.specs.Rows.{screen};
 ghost use Rattle.generator.specs.Sound.{Sound};
 ghost use Rattle.generator.specs.Stand.{Runs};
-ghost use Rattle.registers.specs.File.{file_of, bare};
+ghost use Rattle.registers.specs.File.{file_with, bare};
 ghost use Rattle.machine.specs.Rules.{beginning, written};
 ghost use Rattle.calls.specs.Calls.{ran_of, size_of};
 ghost use Rattle.calls.specs.Runs.{Passes, Part, Starts, Exactly};
@@ -15,11 +15,12 @@ ghost use Rattle.calls.specs.Nine.{nine_of};
 
 use generator::{Generator, Went};
 use machine::{Machine, Written};
-use registers::{Numbers, Registers};
+use registers::{Numbers, Registers, Tables};
 use screen::totals;
 use units::{HalfLines, ScreenUnits};
 
 // The ticks that a `run` has done, its refusal or 0, and the machine after it.
+// As it is: `calls/specs/Calls.antt`, `ran_of`, speaks of the number 0 and of the ticks done and the machine beside a refusal.
 #[derive(Clone, Copy)]
 pub struct Ran {
     pub done: u32,
@@ -28,6 +29,7 @@ pub struct Ran {
 }
 
 // The width and height of a picture; and, of an interlaced one, the pixels of a line's first half, 0 of any other.
+// As it is: the definition size_of says 0 of it.
 #[derive(Clone, Copy)]
 pub struct Size {
     pub width: u64,
@@ -64,13 +66,6 @@ fn dark_halves(n: Numbers) -> u64
     if runs { halves } else { 0 }
 }
 
-// As many as are left, and no more than are due.
-fn fewer(left: u64, due: u32) -> u32
-    ensures fewer { result ≡ min left due }
-{
-    if left < due as u64 { left as u32 } else { due }
-}
-
 // Ticks passed over, and the generator after them.
 #[derive(Clone, Copy)]
 struct Passed {
@@ -90,7 +85,7 @@ fn pass_dark(n: Numbers, g: Generator, halves: u64, due: u32) -> Passed
     let line = s.linetime.0 / 2;
     let number = g.half.0 * line + g.at.0;
     let left = halves * line - number;
-    let ticks = fewer(left, due);
+    let ticks = left.min(due as u64) as u32;
     let to = number + ticks as u64;
     let seen = g.seen;
     let sums = g.sums;
@@ -107,29 +102,21 @@ fn pass_dark(n: Numbers, g: Generator, halves: u64, due: u32) -> Passed
 }
 
 // So many ticks, one by one but for those before VDisplay; they end where one is refused and, if that is wanted, at a frame's start.
-fn steps(
-    n: Numbers,
-    colours: &[u32; 3],
-    palette: &[u32; 256],
-    store: &[u16; 512],
-    g: Generator,
-    memory: &[u8],
-    count: u32,
-    halts: bool,
-) -> Went
-    requires { Sound (file_of n colours.now palette.now store.now) g }
-    ensures part { Part (file_of n colours.now palette.now store.now) memory.now g count halts result }
+fn steps(n: Numbers, tables: Tables, g: Generator, memory: &[u8], count: u32, halts: bool) -> Went
+    requires { Sound (file_with n tables) g }
+    ensures part { Part (file_with n tables.entry) memory.now g count halts result }
 {
     let halves = dark_halves(n);
     let mut now = g;
     let mut done: u32 = 0;
+    // As it is: a `while`, for a step before VDisplay passes over many ticks at once.
     while (done < count) & !(halts & generator::is_start(now)) {
         if now.half.0 < halves {
             let p = pass_dark(n, now, halves, count - done);
             done += p.ticks;
             now = p.next;
         } else {
-            let t = generator::tick_with(n, colours, palette, store, now, memory);
+            let t = generator::tick_with(n, tables, now, memory);
             let refusal = t.refusal;
             now = t.next;
             if refusal != 0 {
@@ -150,31 +137,23 @@ fn steps(
 }
 
 // So many ticks from a frame's start. A frame that nothing refuses leaves what every later one leaves, so whole frames after it are passed over.
-fn from_start(
-    n: Numbers,
-    colours: &[u32; 3],
-    palette: &[u32; 256],
-    store: &[u16; 512],
-    g: Generator,
-    memory: &[u8],
-    count: u32,
-) -> Went
-    requires { Starts (file_of n colours.now palette.now store.now) g count }
-    ensures ran { Exactly (file_of n colours.now palette.now store.now) memory.now g count result }
+fn from_start(n: Numbers, tables: Tables, g: Generator, memory: &[u8], count: u32) -> Went
+    requires { Starts (file_with n tables) g count }
+    ensures ran { Exactly (file_with n tables.entry) memory.now g count result }
 {
     let params = n.params;
     let totals = totals::frame_totals(n.control, params);
     let frame = totals.ticks.0;
     if count as u64 <= frame {
-        return steps(n, colours, palette, store, g, memory, count, false);
+        return steps(n, tables, g, memory, count, false);
     }
-    let first = steps(n, colours, palette, store, g, memory, frame as u32, false);
+    let first = steps(n, tables, g, memory, frame as u32, false);
     if first.refusal != 0 {
         return first;
     }
     let rest = ((count as u64 - frame) % frame) as u32;
     let second = first.next;
-    let last = steps(n, colours, palette, store, second, memory, rest, false);
+    let last = steps(n, tables, second, memory, rest, false);
     let next = last.next;
     Went {
         done: count - rest + last.done,
@@ -191,16 +170,14 @@ pub fn run(m: Machine, memory: &[u8], count: u32) -> Ran
 {
     let regs = m.regs;
     let before = m.generator;
-    let colours = regs.colours;
-    let palette = regs.palette;
-    let store = regs.store;
+    let tables = regs.tables();
     let n = regs.numbers();
     let runs = control::is_running(n.control);
-    let way = steps(n, &colours, &palette, &store, before, memory, count, runs);
+    let way = steps(n, tables, before, memory, count, runs);
     if runs & (way.refusal == 0) {
         let left = count - way.done;
         let start = way.next;
-        let rest = from_start(n, &colours, &palette, &store, start, memory, left);
+        let rest = from_start(n, tables, start, memory, left);
         let generator = rest.next;
         return Ran {
             done: way.done + rest.done,
@@ -236,6 +213,7 @@ pub fn size_of(m: Machine) -> Size
 }
 
 // The refusal of the checksums' reads or 0, and the three words; 0 where refused.
+// As it is: `calls/specs/Nine.antt`, `nine_of`, and `checksums/specs/Told.antt`, `unrefused`, speak of the number 0.
 #[derive(Clone, Copy)]
 pub struct Checksums {
     pub refusal: u32,
@@ -243,6 +221,7 @@ pub struct Checksums {
 }
 
 // The nine checksum bytes, as three words.
+#[tactic(auto, unfolding(crate::specs::Nine::nine_of))]
 pub fn nine(m: Machine) -> Checksums
     requires { Sound m.regs m.generator }
     ensures nine { result ≡ nine_of m }
@@ -250,8 +229,8 @@ pub fn nine(m: Machine) -> Checksums
     let low = m.read(0x0C0);
     let middle = m.read(0x0C1);
     let high = m.read(0x0C2);
-    let later = base::first(middle.refusal == 0, high.refusal, middle.refusal);
-    let refusal = base::first(low.refusal == 0, later, low.refusal);
+    let later = base::choose(middle.refusal == 0, high.refusal, middle.refusal);
+    let refusal = base::choose(low.refusal == 0, later, low.refusal);
     Checksums {
         refusal,
         words: [low.value, middle.value, high.value],

@@ -4,7 +4,7 @@ ghost use Rattle.room.specs.Room.{put_text};
 ghost use Rattle.room.specs.Bytes.{fill_memory, poke_bytes};
 ghost use Rattle.changes.specs.LentMemory.{memory_after, lent_after};
 
-use room::bytes::{bytes_of, one_less};
+use room::bytes::bytes_of;
 use room::{bytes, lent};
 use script::command::Command;
 use script::names;
@@ -26,7 +26,7 @@ fn poked(memory: &mut [u8], values: [u32; 81], count: usize)
 {
     let bytes = bytes_of(&values, 1);
     let at = values[0] as usize;
-    let many = one_less(count);
+    let many = count.saturating_sub(1);
     room::put(memory, at, lent(&bytes, many));
 }
 
@@ -36,20 +36,22 @@ pub fn change(c: Command, memory: &mut [u8], before: u32) -> u32
     ensures lent { result ≡ lent_after c before }
     ensures bytes { memory.new ≡ memory_after c memory.old }
 {
-    let name = c.name;
     let left = c.left;
     let values = left.values;
     let first = values[0];
-    if name == names::MEMORY {
-        bytes::fill(memory, 0, first as usize, 0, 0);
-        return first;
+    match c.name {
+        names::MEMORY => {
+            bytes::fill(memory, 0, first as usize, 0, 0);
+            first
+        }
+        names::POKE => {
+            poked(memory, values, left.count);
+            before
+        }
+        names::FILL => {
+            filled(memory, values);
+            before
+        }
+        _ => before,
     }
-    if name == names::POKE {
-        poked(memory, values, left.count);
-        return before;
-    }
-    if name == names::FILL {
-        filled(memory, values);
-    }
-    before
 }

@@ -12,10 +12,12 @@ ghost use Rattle.changes.specs.Changes.{within, write_done, run_done, draw_done,
 use machine::Machine;
 use script::command::Command;
 use script::names;
+use script::names::Kind;
 
-// Its refusal or 0, the ticks that it has run, the bytes of memory lent from then on, and the machine after it.
+// Its refusal or 0, as document 01 numbers it, the ticks that it has run, the bytes of memory lent from then on, and the machine after it.
 #[derive(Clone, Copy)]
 pub struct Done {
+    // As it is: a number, document 01's, beside a machine that stands when it is refused too (`done_of`).
     pub refusal: u32,
     pub ticks: u32,
     pub memory: u32,
@@ -39,6 +41,7 @@ fn write(m: Machine, lent: u32, address: u32, value: u32) -> Done
 }
 
 // `tick COUNT` or `run COUNT`.
+// As it is: memory and the count of its bytes that are lent, since the definition done_of speaks of both: a later command lends more of them.
 fn run(m: Machine, lent: u32, memory: &[u8], count: u32) -> Done
     requires { Sound m.regs m.generator }
     ensures done { result ≡ run_done m lent (take lent memory.now) count }
@@ -52,17 +55,6 @@ fn run(m: Machine, lent: u32, memory: &[u8], count: u32) -> Done
         memory: lent,
         machine,
     }
-}
-
-// So many bytes as are asked for and are there.
-fn within(wanted: usize, room: usize) -> usize
-    ensures count { result ≡ within wanted room }
-    ensures bound { result ≤ room }
-{
-    if wanted <= room {
-        return wanted;
-    }
-    room
 }
 
 // A picture into a buffer, with the bytes lent.
@@ -91,7 +83,7 @@ fn draw_wanted(m: Machine, lent: u32, memory: &[u8], picture: &mut [u8], wanted:
         ++ drop (within wanted (length picture.old)) picture.old }
     ensures sound { Sound result.machine.regs result.machine.generator }
 {
-    let size = within(wanted as usize, picture.len());
+    let size = (wanted as usize).min(picture.len());
     draw(m, lent, memory, &mut picture[..size])
 }
 
@@ -106,21 +98,18 @@ pub fn apply(c: Command, m: Machine, lent: u32, memory: &mut [u8], picture: &mut
     let left = c.left;
     let values = left.values;
     let first = values[0];
-    let kind = names::kind_of(c.name);
-    if kind == names::WRITES_REGISTER {
-        return write(m, lent, first, values[1]);
-    }
-    if kind == names::RUNS_TICKS {
-        return run(m, lent, memory, script::ticks_of(c));
-    }
-    if kind == names::DRAWS_PICTURE {
-        return draw_wanted(m, lent, memory, picture, first);
-    }
-    let bytes = lent_memory::change(c, memory, lent);
-    Done {
-        refusal: 0,
-        ticks: 0,
-        memory: bytes,
-        machine: m,
+    match names::kind_of(c.name) {
+        Kind::WritesRegister => write(m, lent, first, values[1]),
+        Kind::RunsTicks => run(m, lent, memory, script::ticks_of(c)),
+        Kind::DrawsPicture => draw_wanted(m, lent, memory, picture, first),
+        Kind::ChangesMemory | Kind::OnlyAsks => {
+            let bytes = lent_memory::change(c, memory, lent);
+            Done {
+                refusal: 0,
+                ticks: 0,
+                memory: bytes,
+                machine: m,
+            }
+        }
     }
 }

@@ -3,26 +3,18 @@
 #![tactic(auto)]
 
 use input::{LINE, PIECE};
-use patient::thresholds::Chart;
-use patient::{level, thresholds};
+use patient::Fault;
+use patient::thresholds::{self, Chart};
 use scribe::{ending, pokes, settings};
 use std::env::FillError;
 use std::io::{Read, Write};
 use std::rt::Env;
 
-// The chart read so far, the lines read, and a fault or 0.
+// The chart read so far or what is wrong with the last line read, and how many lines were read.
 #[derive(Clone, Copy)]
 struct Desk {
-    chart: Chart,
+    chart: Result<Chart, Fault>,
     lines: u64,
-    fault: u32,
-}
-
-// The room that a script is asked for, and whether there is such a room.
-#[derive(Clone, Copy)]
-struct Asked {
-    known: bool,
-    interlaced: bool,
 }
 
 // The picture memory of a chart, in any room.
@@ -31,6 +23,7 @@ fn picture_room() -> [u8; 77824] {
 }
 
 // Writes what waits. A write that fails is not told of.
+// As it is: script, out and waiting go side by side: tried as a struct, which lends two of its fields at once, and no proof is made for that yet.
 fn write_out<W: Write>(script: &mut W, out: &[u8], waiting: usize) -> usize {
     let _ = script.write_all(room::lent(out, waiting));
     0
@@ -44,20 +37,9 @@ fn spaced<W: Write>(script: &mut W, out: &[u8], waiting: usize) -> usize {
     write_out(script, out, waiting)
 }
 
-// A part of the memory with nothing on it.
-fn is_blank(part: &[u8]) -> bool {
-    let mut blank = true;
-    let mut i: usize = 0;
-    while i < part.len() {
-        blank = blank & (part[i] == 0);
-        i += 1;
-    }
-    blank
-}
-
 // The line that pokes a part of the memory; none for a part with nothing on it.
 fn poke<W: Write>(script: &mut W, out: &mut [u8], waiting: usize, part: &[u8], at: u32) -> usize {
-    if is_blank(part) {
+    if part.iter().all(|byte| *byte == 0) {
         return waiting;
     }
     let room = spaced(script, out, waiting);
@@ -67,17 +49,10 @@ fn poke<W: Write>(script: &mut W, out: &mut [u8], waiting: usize, part: &[u8], a
 // The picture memory, 64 bytes a line.
 fn pokes<W: Write>(script: &mut W, out: &mut [u8], at: usize, memory: &[u8]) -> usize {
     let mut waiting = at;
-    let mut from: usize = 0;
-    while from < memory.len() {
-        let left = &memory[from..];
-        waiting = poke(
-            script,
-            out,
-            waiting,
-            room::lent(left, 64),
-            (from % 0x1000000) as u32,
-        );
-        from = room::later(from, 64, memory.len());
+    let mut place: u32 = 0;
+    for part in memory.chunks(64) {
+        waiting = poke(script, out, waiting, part, place);
+        place = place.saturating_add(64);
     }
     waiting
 }
@@ -96,53 +71,38 @@ fn script_for<W: Write>(script: &mut W, chart: Chart, interlaced: bool, out: &mu
     write_out(script, out, end);
 }
 
-// What is wrong with a line.
-fn phrase(out: &mut [u8], at: usize, fault: u32) -> usize {
-    if fault == thresholds::UNKNOWN_FREQUENCY {
-        return room::put(out, at, b"unknown frequency\n");
+// What is wrong with a line, in words.
+// As it is: bytes, which are put into the lent room; a Display would have to be written into it first, and is no plainer.
+fn phrase(fault: Fault) -> &'static [u8] {
+    match fault {
+        Fault::UnknownFrequency => b"unknown frequency\n",
+        Fault::GivenTwice => b"frequency given twice\n",
+        Fault::MissingEar => b"missing ear\n",
+        Fault::TooManyWords => b"too many words\n",
+        Fault::NotALevel => b"level not a number\n",
+        Fault::OutOfRange => b"level out of range, -10 to 120\n",
+        Fault::NotAStep => b"level not a step of 5\n",
+        Fault::TooLong => b"line too long\n",
     }
-    if fault == thresholds::GIVEN_TWICE {
-        return room::put(out, at, b"frequency given twice\n");
-    }
-    if fault == thresholds::MISSING_EAR {
-        return room::put(out, at, b"missing ear\n");
-    }
-    if fault == thresholds::TOO_MANY_WORDS {
-        return room::put(out, at, b"too many words\n");
-    }
-    if fault == level::NOT_A_LEVEL {
-        return room::put(out, at, b"level not a number\n");
-    }
-    if fault == level::OUT_OF_RANGE {
-        return room::put(out, at, b"level out of range, -10 to 120\n");
-    }
-    if fault == level::NOT_A_STEP {
-        return room::put(out, at, b"level not a step of 5\n");
-    }
-    room::put(out, at, b"line too long\n")
 }
 
 // `line N: what is wrong`.
-fn complain<W: Write>(said: &mut W, lines: u64, fault: u32, out: &mut [u8]) {
+fn complain<W: Write>(said: &mut W, lines: u64, fault: Fault, out: &mut [u8]) {
     let word = room::put(out, 0, b"line ");
     let number = text::put_decimal(out, word, lines);
     let colon = room::put(out, number, b": ");
-    let end = phrase(out, colon, fault);
+    let end = room::put(out, colon, phrase(fault));
     write_out(said, out, end);
 }
 
 // A whole line; after a wrong one no other is read.
-fn line_read(d: Desk, line: &[u8]) -> Desk {
-    if d.fault != 0 {
-        return d;
-    }
-    let chart = d.chart;
-    let reading = patient::read_line(chart, line);
-    let next = reading.chart;
-    Desk {
-        chart: next,
-        lines: input::one_more(d.lines),
-        fault: reading.fault,
+fn line_read(desk: Desk, line: &[u8]) -> Desk {
+    match desk.chart {
+        Ok(chart) => Desk {
+            chart: patient::read_line(chart, line),
+            lines: input::one_more(desk.lines),
+        },
+        Err(_) => desk,
     }
 }
 
@@ -150,13 +110,12 @@ fn line_read(d: Desk, line: &[u8]) -> Desk {
 fn read_all<R: Read>(input: &mut R) -> Desk {
     let mut piece = [0u8; PIECE];
     let mut line = [0u8; LINE];
-    let chart = thresholds::fresh();
     let mut desk = Desk {
-        chart,
+        chart: Ok(thresholds::fresh()),
         lines: 0,
-        fault: 0,
     };
     let mut reader = input::begin();
+    // As it is: no index: the clause `fewer` of `next` ends it. `session` does another thing with a line, and keeps another desk.
     while 0 < reader.turns {
         reader = input::next(input, reader, &mut piece, &mut line);
         if input::is_line(reader) {
@@ -174,31 +133,28 @@ fn is_given(env: &impl Env, number: usize) -> bool {
     }
 }
 
-// The room that the program's words ask for: today's by none, the oldest by `interlaced` alone.
-fn asked_room(env: &impl Env) -> Asked {
+// Whether the room that the program's words ask for is interlaced: today's by none, the oldest by `interlaced` alone, and no room by any other.
+fn asked_room(env: &impl Env) -> Option<bool> {
     let mut word = [0u8; 16];
-    let length = env.arg(1, &mut word).unwrap_or(0);
-    let interlaced = check::same(room::lent(&word, length), b"interlaced") & !is_given(env, 2);
-    Asked {
-        known: interlaced | !is_given(env, 1),
-        interlaced,
+    match env.arg(1, &mut word) {
+        Err(FillError::NotPresent) => Some(false),
+        Ok(length) if check::same(room::lent(&word, length), b"interlaced") & !is_given(env, 2) =>
+            Some(true),
+        Err(FillError::TooLong) | Ok(_) => None,
     }
 }
 
 fn main(rt: HostRuntime) {
     let mut out = [0u8; 65536];
-    let asked = asked_room(&rt);
-    if !asked.known {
+    let Some(interlaced) = asked_room(&rt) else {
         let _ = rt.stderr().write_all(
             b"chart: no such room; usage: chart < PATIENT, or chart interlaced < PATIENT\n",
         );
         return;
-    }
+    };
     let desk = read_all(&mut rt.stdin());
-    if desk.fault != 0 {
-        complain(&mut rt.stderr(), desk.lines, desk.fault, &mut out);
-        return;
+    match desk.chart {
+        Ok(chart) => script_for(&mut rt.stdout(), chart, interlaced, &mut out),
+        Err(fault) => complain(&mut rt.stderr(), desk.lines, fault, &mut out),
     }
-    let chart = desk.chart;
-    script_for(&mut rt.stdout(), chart, asked.interlaced, &mut out);
 }

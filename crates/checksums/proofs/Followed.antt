@@ -83,7 +83,7 @@ dot_narrow r p position memory place x y =
     over_narrow r.colours (code_over r.control position r.store x y) (masked_colour r.palette r.mask (pixel_shown r.control memory place)) p.colours
     (masked_narrow r.palette r.mask (pixel_shown r.control memory place))
 
--- ---- where FrameInactive isFirst, over plain numbers. d: the half lines of a field before VDisplay
+-- ---- where FrameInactive falls, over plain numbers. d: the half lines of a field before VDisplay
 
 -- the next tick lies before VDisplay, or is its first
 abbrev waits : ℕ → ℕ → ℕ → Bool

@@ -16,6 +16,7 @@ fn entry(palette: &[u32; 256], pixel: u8, mask: u8) -> u32
 }
 
 // The colour of a pixel: each channel has its own byte of the mask.
+#[tactic(auto, unfolding(crate::specs::Colour::masked_colour))]
 pub fn masked_colour(palette: &[u32; 256], mask: u32, pixel: u8) -> u32
     ensures colour { result ≡ masked_colour palette.now mask pixel }
 {
@@ -34,10 +35,8 @@ pub fn masked_palette(palette: &[u32; 256], mask: u32) -> [u32; 256]
     ensures table { result ≡ masked_palette palette.now mask }
 {
     let mut table = [0u32; 256];
-    let mut pixel: usize = 0;
-    while pixel < 256 {
-        table[pixel] = masked_colour(palette, mask, pixel as u8);
-        pixel += 1;
+    for (pixel, colour) in table.iter_mut().enumerate() {
+        *colour = masked_colour(palette, mask, pixel as u8);
     }
     table
 }

@@ -1,5 +1,5 @@
 -- Cases of this crate's functions: the cursor's code and its colour. Assumes nothing.
-use Prim.Native.Nat.{ℕ, zero, suc, ◌+◌, ◌-◌, ◌*◌, ◌/◌, ◌^◌, ◌≤◌, ◌<◌}
+use Prim.Native.Nat.{ℕ, zero, suc, ◌+◌, ◌*◌, ◌/◌, ◌^◌, ◌≤◌, ◌<◌}
 use mathlib.Core.Path.{◌≡◌, refl, ◌∙◌}
 use mathlib.Core.Bool.{and-false}
 use mathlib.Core.List.{List}
@@ -7,10 +7,9 @@ use native.Mathlib.Nat.{pow-suc}
 use native.Mathlib.Omega.{arith}
 use borrow.Author.Tests.{lt-ltb, le-ltb}
 use lib.IntN.{ℤ, pos, negsuc, ◌-ℤ◌}
-use lib.ListN.{get_or}
 use lib.Pow.{pow-add}
 use Rattle.control.specs.Control.{field}
-use Rattle.cursor.specs.Cursor.{signed12, code_at, code_within, cursor_code, within, over}
+use Rattle.cursor.specs.Cursor.{signed12, code_at, code_within, cursor_code, within}
 
 -- two bits a column
 pub four_power : (n : ℕ) → 4 ^ n ≡ 2 ^ (2 * n)
@@ -53,17 +52,11 @@ module _ (store : List ℕ) (position x y : ℕ) where
       let e : field 0 12 (position / 0x1000) ≡ field 12 12 position = omega arith in
       rw e
 
-  pub code_under : (row column code : ℕ) → row ≡ within r → column ≡ within k → row < 64 → column < 64 → code ≡ code_at store row column → (code ≡ cursor_code store position x y) × (code < 4)
-  code_under row column code a b p q e = (e ∙ rw (a, b) (code_inside store r k (rw a at p) (rw b at q)) ∙ whole, omega arith)
+  pub code_under : (row column code : ℕ) → (row < 64) × (row ≡ within r) → (column < 64) × (column ≡ within k) → code ≡ code_at store row column → code ≡ cursor_code store position x y
+  code_under row column code a b e = e ∙ rw (a.1, b.1) (code_inside store r k (rw a.1 at a.0) (rw b.1 at b.0)) ∙ whole
 
-  pub code_beside : (column : ℕ) → column ≡ within k → 64 ≤ column → (0 ≡ cursor_code store position x y) × (0 < 4)
-  code_beside column b q = (code_column_outside store r k (rw b at q) ∙ whole, omega arith)
+  pub code_beside : 64 ≤ within k → 0 ≡ cursor_code store position x y
+  code_beside q = code_column_outside store r k q ∙ whole
 
-  pub code_above : (row : ℕ) → row ≡ within r → 64 ≤ row → (0 ≡ cursor_code store position x y) × (0 < 4)
-  code_above row a p = (code_row_outside store r k (rw a at p) ∙ whole, omega arith)
-
-pub over_some : (colours : List ℕ) (code below : ℕ) → 0 < code → over colours code below ≡ get_or colours (code - 1) 0
-over_some colours zero below h = absurd (omega arith)
-over_some colours (suc code) below h =
-    let e : suc code - 1 ≡ code = omega arith in
-    rw e
+  pub code_above : 64 ≤ within r → 0 ≡ cursor_code store position x y
+  code_above p = code_row_outside store r k p ∙ whole

@@ -41,12 +41,12 @@ module _ (control position : ℕ) (store : List ℕ) (x y : ℕ) where
   pub beside : Outside (first_column position) (x + 2048) → code_over control position store x y ≡ 0
   beside o =
       let e : field 0 12 (position / 0x1000) ≡ position / 0x1000 % 0x1000 = omega arith in
-      none (code_beside store position x y _ refl (outside (field 0 12 (position / 0x1000)) x (omega arith) (rw e o))).0
+      none (code_beside store position x y (outside (field 0 12 (position / 0x1000)) x (omega arith) (rw e o)))
 
   pub above : Outside (first_line position) (y + 2048) → code_over control position store x y ≡ 0
   above o =
       let e : field 0 12 position ≡ position % 0x1000 = omega arith in
-      none (code_above store position x y _ refl (outside (field 0 12 position) y (omega arith) (rw e o))).0
+      none (code_above store position x y (outside (field 0 12 position) y (omega arith) (rw e o)))
 
 -- four pixels that it is not near have none
 pub near_none : (control position : ℕ) (x y : ℕ) → (cursor_on control && near position x y) ≡ false → (store : List ℕ) (k : ℕ) → k < 4 → code_over control position store (x + k) y ≡ 0

@@ -1,4 +1,3 @@
--- Laws of signed numbers and of the cursor that this crate and its callers use.
-pub mod Signed
+-- Laws of the cursor that this crate and its callers use.
 pub mod Cases
 pub mod Clear

@@ -1,9 +1,9 @@
 // The cursor (01, "Rows and pixels"): its code at a pixel, by signed differences, and its colours.
 #![tactic(auto)]
 
-ghost use Rattle.std.specs.Prelude.{◌≡◌, ◌<◌, pos, ◌-ℤ◌, get_or};
+ghost use Rattle.std.specs.Prelude.{◌≡◌, ◌%◌, ◌<◌, ◌≤◌, pos, ◌-ℤ◌, MatchOption};
 ghost use Rattle.control.specs.Control.{field};
-ghost use Rattle.cursor.specs.Cursor.{signed12, within, code_at, cursor_code, first_column, first_line, near, over};
+ghost use Rattle.cursor.specs.Cursor.{signed12, within, code_at, cursor_code, biased, first_column, first_line, near, over};
 
 // The low 12 bits of a word, in two's complement.
 fn signed_field(word: u32) -> i64
@@ -20,16 +20,18 @@ fn offset(word: u32, at: u32) -> i64
     at as i64 - signed_field(word)
 }
 
-// The number of that column or row within the cursor; outside it 64.
-fn number(word: u32, at: u32) -> u32
-    ensures number { result ≡ within (pos at -ℤ signed12 (field 0 12 word)) }
+// The number of that column or row within the cursor; outside it there is none.
+fn number(word: u32, at: u32) -> Option<u32>
+    ensures number { MatchOption result
+        (64 ≤ within (pos at -ℤ signed12 (field 0 12 word)))
+        (λ n. (n < 64) × (n ≡ within (pos at -ℤ signed12 (field 0 12 word)))) }
 {
     let offset = offset(word, at);
-    if offset < 0 {
-        return 64;
+    if (0..64).contains(&offset) {
+        Some(offset as u32)
+    } else {
+        None
     }
-    let n = offset as u64;
-    if n < 64 { n as u32 } else { 64 }
 }
 
 // The code at a row and a column of the cursor.
@@ -48,25 +50,30 @@ pub fn cursor_code(store: &[u16; 512], position: u32, x: u32, y: u32) -> u32
 {
     let column = number(position / 0x1000, x);
     let row = number(position, y);
-    if row < 64 {
-        if column < 64 {
-            return code_at(store, row, column);
-        }
+    match (row, column) {
+        (Some(row), Some(column)) => code_at(store, row, column),
+        _ => 0,
     }
-    0
 }
 
-// The cursor's first column and its first line, counted from -2,048, where a signed position begins.
+// A 12-bit field in two's complement, counted from -2,048, where a signed position begins.
+fn biased(field: u32) -> u64
+    ensures place { result ≡ biased (field % 0x1000) }
+{
+    ((field % 0x1000 + 2048) % 0x1000) as u64
+}
+
+// The cursor's first column and its first line, counted so.
 pub fn first_column(position: u32) -> u64
     ensures column { result ≡ first_column position }
 {
-    ((position / 0x1000 % 0x1000 + 2048) % 0x1000) as u64
+    biased(position / 0x1000)
 }
 
 pub fn first_line(position: u32) -> u64
     ensures line { result ≡ first_line position }
 {
-    ((position % 0x1000 + 2048) % 0x1000) as u64
+    biased(position)
 }
 
 // The cursor may cover one of four pixels, the first of which is pixel x of line y.
@@ -80,14 +87,6 @@ pub fn is_near(position: u32, x: u32, y: u32) -> bool
     (top <= line) & (line < top + 64) & (first <= column + 3) & (column < first + 64)
 }
 
-// One of the three cursor colours, from 0; past them there is none.
-fn colour_at(colours: [u32; 3], number: u32) -> u32
-    ensures colour { result ≡ get_or colours number 0 }
-{
-    let index = number as usize;
-    if index < 3 { colours[index] } else { 0 }
-}
-
 // A cursor's code over what is below: 0 is transparent, 1 to 3 are cursor colours.
 pub fn cover(colours: &[u32; 3], code: u32, below: u32) -> u32
     ensures colour { result ≡ over colours.now code below }
@@ -95,6 +94,5 @@ pub fn cover(colours: &[u32; 3], code: u32, below: u32) -> u32
     if code == 0 {
         return below;
     }
-    let three = *colours;
-    colour_at(three, code - 1)
+    colours.get(code as usize - 1).copied().unwrap_or(0)
 }

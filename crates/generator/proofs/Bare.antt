@@ -3,12 +3,11 @@ use mathlib.Core.Bool.{Bool}
 use mathlib.Core.List.{List}
 use mathlib.Core.Path.{◌≡◌, refl}
 use Prim.Native.Nat.{ℕ}
-use Rattle.lines.specs.Lines.{visible}
 use Rattle.registers.specs.File.{numbers_of, bare}
 use Rattle.registers.specs.declared.Registers.{Registers}
 use Rattle.signals.specs.declared.Dot.{Dot}
 use Rattle.pixel.specs.declared.Sums.{Sums}
-use Rattle.generator.specs.Rows.{visible_at, shows, top_used, taken, transfer_at, held_address, place, asks, leads, request_at}
+use Rattle.generator.specs.Rows.{visible_at, shows, top_used, taken, transfer_at, held_address, place, request_at}
 use Rattle.generator.specs.Tick.{refuses20, seen_after, step_with, signals_with}
 use Rattle.generator.specs.Stand.{Runs, Stands}
 use Rattle.generator.specs.declared.Generator.{Generator}

@@ -1,15 +1,14 @@
 -- Ticks before VDisplay are never refused, and move nothing but the place. Assumes nothing.
-use Prim.Native.Nat.{ℕ, zero, suc, ◌+◌, ◌*◌, ◌/◌, ◌%◌, ◌≤◌, ◌<◌}
-use mathlib.Core.Bool.{false, cond}
+use Prim.Native.Nat.{ℕ, ◌+◌, ◌/◌, ◌%◌, ◌<◌}
+use mathlib.Core.Bool.{false}
 use mathlib.Core.List.{List}
-use mathlib.Core.Path.{◌≡◌, refl, sym, ap, ◌∙◌}
+use mathlib.Core.Path.{◌≡◌, sym, ◌∙◌}
 use native.Mathlib.Nat.{mod-lt, div-lt_iff_lt-mul, div-add-mod'}
 use native.Mathlib.Omega.{arith}
 use borrow.Author.Tests.{ne_eqb}
-use Rattle.units.specs.Parameters.{half_ticks, halves_to_vdisplay, halves_in_field}
+use Rattle.units.specs.Parameters.{half_ticks, halves_to_vdisplay}
 use Rattle.screen.proofs.limits.Laws.{accepted_in}
 use Rattle.registers.specs.declared.Registers.{Registers}
-use Rattle.pixel.specs.declared.Sums.{Sums}
 use Rattle.lines.specs.Lines.{opens, closes, next_half, next_at, tick_number}
 use Rattle.generator.specs.Rows.{screen, field_at, visible_at, shows, taken, transfer_at, held_address}
 use Rattle.generator.specs.Tick.{refuses20, cleared, sums_after, seen_after, step_with, tick_refusal, tick_of}

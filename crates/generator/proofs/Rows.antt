@@ -1,10 +1,10 @@
 -- The top that a field starts at, a row's number by its divisor, and its length. Assumes nothing.
 use Prim.Native.Nat.{ℕ, ◌+◌, ◌*◌, ◌^◌, ◌≤◌, ◌<◌}
 use mathlib.Core.Bool.{Bool, true, false}
-use mathlib.Core.Path.{◌≡◌, refl, sym, ◌∙◌}
+use mathlib.Core.Path.{◌≡◌}
 use native.Mathlib.Nat.{add-mul-div_right, mul_assoc}
 use native.Mathlib.Omega.{arith}
-use Rattle.control.specs.Control.{increment, offset, row_divisor, row_step}
+use Rattle.control.specs.Control.{increment, row_divisor, row_step}
 use Rattle.control.proofs.Laws.{increment_rows, divisor_positive}
 use Rattle.units.specs.Parameters.{row_length}
 use Rattle.units.specs.declared.Screen.{Screen}

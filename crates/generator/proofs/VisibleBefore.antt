@@ -3,8 +3,8 @@
 use Prim.Native.Nat.{ℕ, zero, suc, ◌+◌, ◌-◌, ◌*◌, ◌/◌, ◌%◌, ◌≤◌, ◌<◌, min}
 use mathlib.Core.Bool.{Bool, true, false, cond, ◌&&◌, true≢false}
 use mathlib.Core.Path.{◌≡◌, refl, sym, ap, ◌∙◌}
-use mathlib.Core.Logic.{◌⊎◌, ⊎_elim}
-use native.Mathlib.Nat.{mod-lt, mod-eq_of_lt, div-eq_of_lt-le, div-lt_iff_lt-mul, div-add-mod', mul-add-mod_self_right, mul-le-mul_right, mul-pos, mul_comm, zero-mul, zero-div, zero-mod, add-zero, add-suc, add-mul, le_trans}
+use mathlib.Core.Logic.{⊎_elim}
+use native.Mathlib.Nat.{mod-lt, mod-eq_of_lt, div-eq_of_lt-le, div-add-mod', mul-add-mod_self_right, mul-le-mul_right, mul_comm, zero-mul, zero-div, zero-mod, add-zero, add-suc, add-mul, le_trans}
 use native.Mathlib.Numerals.{add-one}
 use native.Mathlib.Omega.{arith}
 use borrow.Author.Tests.{ltb-true, leb-true, lt-ltb, le-ltb, le-leb, lt-leb, eq-eqb, ne_eqb}
@@ -15,7 +15,7 @@ use Rattle.screen.specs.Limits.{Accepted}
 use Rattle.screen.specs.Totals.{frame_visible}
 use Rattle.units.specs.declared.Screen.{Screen}
 use Rattle.lines.specs.Lines.{period, is_vdisplay, line_of, second_half, in_line, in_display, visible, lead, column_of, lines_above, tick_number, visible_before, field_visible}
-use Rattle.lines.proofs.Halves.{second_since_vblank, second_through, line_through, in_line_even, line_of_even, first_next, first_line, first_in, second_next, second_line, second_in, in_line_next, line_least, line_most, in_line_least}
+use Rattle.lines.proofs.Halves.{second_since_vblank, second_through, line_through, in_line_even, line_of_even, first_next, first_line, first_in, second_next, second_line, second_in, in_line_next, line_least, in_line_least}
 use Rattle.lines.specs.declared.Period.TheVariants.{PreEqualise, VSync, PostEqualise, VBlank}
 use Rattle.base.proofs.Bools.{below, both_hold}
 

@@ -5,7 +5,7 @@ mod output;
 mod stand;
 
 ghost use Rattle.std.specs.Prelude.{◌≡◌};
-ghost use Rattle.registers.specs.File.{file_of, bare};
+ghost use Rattle.registers.specs.File.{file_with, bare};
 ghost use Rattle.generator.specs.Sound.{Sound};
 ghost use Rattle.generator.specs.Stand.{Runs};
 ghost use Rattle.generator.specs.Tick.{tick_of};
@@ -13,13 +13,13 @@ ghost use Rattle.generator.specs.Counters.{displaying, fresh, is_start};
 ghost use Rattle.generator.specs.Rows.{top_used};
 
 use pixel::Sums;
-use registers::{Numbers, Registers};
+use registers::{Numbers, Registers, Tables};
 use signals::Signals;
 use units::{HalfLines, ScreenUnits};
 
 // Whether the next tick lies in the second field of an interlaced frame, its half line in the field and its number in that half line; the
 // field's visible ticks so far; the last address; the checksums; the request at the last visible tick.
-#[derive(Clone, Copy)]
+#[derive(Clone, Copy, PartialEq, Eq)]
 pub struct Generator {
     pub second: bool,
     pub half: HalfLines,
@@ -78,7 +78,8 @@ pub fn top_used(n: Numbers, second: bool) -> u32
 }
 
 // A tick's refusal or 0, what it puts out, and the generator after it.
-#[derive(Clone, Copy)]
+// As it is: `demands/specs/Demand1.antt`, `lent` and `lent_refused`, speak of the number 0 and of signals and generator beside a refusal.
+#[derive(Clone, Copy, PartialEq, Eq)]
 pub struct Ticked {
     pub refusal: u32,
     pub signals: Signals,
@@ -86,6 +87,7 @@ pub struct Ticked {
 }
 
 // Ticks one after another, as a caller does them: how many were done, the refusal that ended them or 0, and the generator then.
+// As it is: `calls/specs/Runs.antt`, `Part` and `Exactly`, and `speed/specs/Ticks.antt`, `Filled`, speak of the number 0 in it.
 #[derive(Clone, Copy)]
 pub struct Went {
     pub done: u32,
@@ -94,16 +96,9 @@ pub struct Went {
 }
 
 // A tick of a running generator.
-fn running_tick(
-    n: Numbers,
-    colours: &[u32; 3],
-    palette: &[u32; 256],
-    store: &[u16; 512],
-    g: Generator,
-    memory: &[u8],
-) -> Ticked
+fn running_tick(n: Numbers, tables: Tables, g: Generator, memory: &[u8]) -> Ticked
     requires { Runs (bare n) g }
-    ensures ticked { result ≡ tick_of (file_of n colours.now palette.now store.now) memory.now g }
+    ensures ticked { result ≡ tick_of (file_with n tables.entry) memory.now g }
 {
     let t = stand::stand_of(n, g);
     let refused = output::is_refused(n, g, t, memory);
@@ -114,7 +109,7 @@ fn running_tick(
             next: g,
         };
     }
-    let dots = output::dots_of(n, colours, palette, store, g, t, memory);
+    let dots = output::dots_of(n, tables, g, t, memory);
     let four = signals::colours(dots);
     let sums = g.sums.tallied(t.moment.opens, t.shows, four);
     let next = output::next_of(n, g, t, sums);
@@ -127,20 +122,13 @@ fn running_tick(
 }
 
 // One tick: its refusal or 0, what it puts out, and the generator after it. The registers stand outside: a run of ticks moves the generator alone.
-pub fn tick_with(
-    n: Numbers,
-    colours: &[u32; 3],
-    palette: &[u32; 256],
-    store: &[u16; 512],
-    g: Generator,
-    memory: &[u8],
-) -> Ticked
-    requires { Sound (file_of n colours.now palette.now store.now) g }
-    ensures ticked { result ≡ tick_of (file_of n colours.now palette.now store.now) memory.now g }
+pub fn tick_with(n: Numbers, tables: Tables, g: Generator, memory: &[u8]) -> Ticked
+    requires { Sound (file_with n tables) g }
+    ensures ticked { result ≡ tick_of (file_with n tables.entry) memory.now g }
 {
     let runs = control::is_running(n.control);
     if runs {
-        return running_tick(n, colours, palette, store, g, memory);
+        return running_tick(n, tables, g, memory);
     }
     Ticked {
         refusal: 23,
@@ -154,9 +142,5 @@ pub fn tick(r: Registers, g: Generator, memory: &[u8]) -> Ticked
     requires { Sound r g }
     ensures ticked { result ≡ tick_of r memory.now g }
 {
-    let colours = r.colours;
-    let palette = r.palette;
-    let store = r.store;
-    let n = r.numbers();
-    tick_with(n, &colours, &palette, &store, g, memory)
+    tick_with(r.numbers(), r.tables(), g, memory)
 }

@@ -1,6 +1,6 @@
 // What a tick puts out (01, "Lines and frames", "Rows and pixels"), and the generator that it leaves.
 ghost use Rattle.std.specs.Prelude.{◌≡◌, ◌+◌, ◌*◌, ◌^◌, ◌<◌, true, false, ◌&&◌};
-ghost use Rattle.registers.specs.File.{file_of, bare};
+ghost use Rattle.registers.specs.File.{file_with, bare};
 ghost use Rattle.base.specs.Count.{run};
 ghost use Rattle.control.specs.Control.{transferring, depth, pixel_bits};
 ghost use Rattle.memory.specs.Memory.{ends_beyond, pixel_shown};
@@ -11,7 +11,7 @@ ghost use Rattle.generator.specs.Stand.{Runs, Stands};
 use crate::Generator;
 use crate::stand::Stand;
 use pixel::{Spot, Sums};
-use registers::Numbers;
+use registers::{Numbers, Tables};
 use signals::{Dot, Signals};
 use units::{HalfLines, ScreenUnits};
 
@@ -38,17 +38,9 @@ fn spot_of(column: u64, line: u64, place: u64) -> Spot
 }
 
 // Pixel k of a visible tick whose first one stands at a spot.
-fn dot_of(
-    n: Numbers,
-    colours: &[u32; 3],
-    palette: &[u32; 256],
-    store: &[u16; 512],
-    memory: &[u8],
-    first: Spot,
-    k: u32,
-) -> Dot
+fn dot_of(n: Numbers, tables: Tables, memory: &[u8], first: Spot, k: u32) -> Dot
     requires { (k < 4) × (first.place < 2 ^ 60) × (first.x < 2 ^ 28) }
-    ensures dot { result ≡ dot_at (file_of n colours.now palette.now store.now)
+    ensures dot { result ≡ dot_at (file_with n tables.entry)
         n.position memory.now (first.place + k) (first.x + k) first.y }
 {
     let at = Spot {
@@ -56,26 +48,19 @@ fn dot_of(
         x: first.x + k,
         y: first.y,
     };
-    pixel::dot_at(n, n.position, colours, palette, store, memory, at)
+    pixel::dot_at(n, n.position, tables, memory, at)
 }
 
 // Four pixels in a row, the first at a spot, of which the cursor may cover some.
-fn covered(
-    n: Numbers,
-    colours: &[u32; 3],
-    palette: &[u32; 256],
-    store: &[u16; 512],
-    memory: &[u8],
-    first: Spot,
-) -> [Dot; 4]
+fn covered(n: Numbers, tables: Tables, memory: &[u8], first: Spot) -> [Dot; 4]
     requires { (first.place < 2 ^ 60) × (first.x < 2 ^ 28) }
-    ensures dots { result ≡ run (λ k. dot_at (file_of n colours.now palette.now store.now)
+    ensures dots { result ≡ run (λ k. dot_at (file_with n tables.entry)
         n.position memory.now (first.place + k) (first.x + k) first.y) 0 4 }
 {
-    let a = dot_of(n, colours, palette, store, memory, first, 0);
-    let b = dot_of(n, colours, palette, store, memory, first, 1);
-    let c = dot_of(n, colours, palette, store, memory, first, 2);
-    let d = dot_of(n, colours, palette, store, memory, first, 3);
+    let a = dot_of(n, tables, memory, first, 0);
+    let b = dot_of(n, tables, memory, first, 1);
+    let c = dot_of(n, tables, memory, first, 2);
+    let d = dot_of(n, tables, memory, first, 3);
     [a, b, c, d]
 }
 
@@ -90,6 +75,7 @@ fn held_pixel(control: u32, memory: &[u8], place: u64) -> u8
 }
 
 // The same where a pixel is a byte.
+// As it is: beside `held_pixel`: at this depth no shift and no mask is asked for, once for four pixels; joined they are no plainer.
 fn held_byte(control: u32, memory: &[u8], place: u64) -> u8
     requires control_value { (transferring control ≡ true) × (depth control ≡ 3) }
     requires place_value { ends_beyond (pixel_bits control) memory.now place ≡ false }
@@ -140,28 +126,20 @@ fn uncovered(n: Numbers, palette: &[u32; 256], memory: &[u8], place: u64) -> [Do
 }
 
 // The four pixels of a tick that is not refused: where the cursor is not near, nothing of it is asked.
-pub fn dots_of(
-    n: Numbers,
-    colours: &[u32; 3],
-    palette: &[u32; 256],
-    store: &[u16; 512],
-    g: Generator,
-    t: Stand,
-    memory: &[u8],
-) -> [Dot; 4]
+pub fn dots_of(n: Numbers, tables: Tables, g: Generator, t: Stand, memory: &[u8]) -> [Dot; 4]
     requires runs { Runs (bare n) g }
     requires stands { Stands (bare n) g t }
     requires g_value { refuses20 (bare n) memory.now g ≡ false }
-    ensures dots { result ≡ dots (file_of n colours.now palette.now store.now) memory.now g }
+    ensures dots { result ≡ dots (file_with n tables.entry) memory.now g }
 {
     if t.shows {
         let first = spot_of(t.moment.column, t.moment.line, t.place);
         let on = control::is_cursor_on(n.control);
         let near = cursor::is_near(n.position, first.x, first.y);
         if on & near {
-            return covered(n, colours, palette, store, memory, first);
+            return covered(n, tables, memory, first);
         }
-        return uncovered(n, palette, memory, t.place);
+        return uncovered(n, tables.palette, memory, t.place);
     }
     let black = Dot { colour: 0 };
     [black, black, black, black]
@@ -183,7 +161,7 @@ pub fn next_of(n: Numbers, g: Generator, t: Stand, sums: Sums) -> Generator
         seen: ScreenUnits(base::choose(m.closes, 0, more)),
         held: t.held,
         sums,
-        asked: base::level(m.visible, t.asking, g.asked),
+        asked: base::choose(m.visible, t.asking, g.asked),
     }
 }
 
@@ -201,7 +179,7 @@ pub fn signals_of(n: Numbers, g: Generator, t: Stand, four: [Dot; 4]) -> Signals
         blank: !t.shows,
         request: t.request,
         transfer,
-        address: base::first(transfer, t.held, 0),
+        address: base::choose(transfer, t.held, 0),
         dots: four,
     }
 }

@@ -20,6 +20,7 @@ use units::Screen;
 
 // The screen, and the tick's moment; whether a row is transferred, and the address held; the request at a
 // visible tick, and at this one; whether its pixels show, and the place of the first.
+// As it is: `Stands` says all of it of every tick, and is a clause: numbers, generator and stand go apart through `output`, which takes each alone.
 #[derive(Clone, Copy)]
 pub struct Stand {
     pub screen: Screen,
@@ -141,7 +142,7 @@ pub fn stand_of(n: Numbers, g: Generator) -> Stand
     let plain = control::is_plain(n.control);
     let moment = lines::moment_of(params, interlaced, second, plain, half as u32, at as u32);
     let top = crate::top_used(n, second);
-    let taken = base::first(moment.opens, top, g.held);
+    let taken = base::choose(moment.opens, top, g.held);
     if moment.visible {
         return in_row(n, g, s, moment, taken);
     }

@@ -1,101 +1,129 @@
--- A line taken byte by byte: what is still to be taken comes to the same line, room and place. Assumes nothing.
-use Prim.Native.Nat.{ℕ, suc, ◌+◌, ◌-◌, ◌≤◌, ◌<◌}
-use mathlib.Core.Bool.{Bool, true, false}
+-- A line taken out of a piece: up to the first LF, and so far as the room has place. Assumes nothing.
+use Prim.Native.Nat.{ℕ, suc, ◌+◌, ◌-◌, ◌≤◌, ◌<◌, min}
+use mathlib.Core.Bool.{Bool, true, false, not, cond}
 use mathlib.Core.List.{List, [], ◌∷◌}
-use mathlib.Core.Path.{◌≡◌, refl, sym, ◌∙◌}
-use native.Mathlib.Numerals.{add-one}
+use mathlib.Core.Path.{◌≡◌, refl, sym, ap, ◌∙◌}
 use native.Mathlib.Omega.{arith}
-use borrow.Author.Tests.{eq-eqb, ne_eqb}
-use lib.ListN.{length, get_or, take, drop, set, length-set, drop_of_length-le}
-use lib.Seq.{take-nil}
-use Rattle.base.proofs.Lists.{left_from}
-use Rattle.std.specs.Prelude.{Option, None, Some}
+use lib.Dec.{eqb, ltb}
+use lib.ListN.{length, take, drop}
+use mir.Val.{bool_byte}
+use borrow.Author.Tests.{lt-ltb, le-ltb, ltb-true, ltb-false}
+use Rattle.std.proofs.lemmas.Grind.{common_steps}
+use Rattle.std.proofs.lemmas.List.{take_all, take_rest, length-take, nil_from_length, drop-drop, drop_all, append-nil, append_assoc}
+use Rattle.std.proofs.lemmas.List.Edits.{sets, sets-eq}
+use Rattle.std.proofs.lemmas.Bool.{cases_lt}
+use mathlib.Core.Logic.{⊎_elim}
+use borrow.Rule.Slice.PartMut.{put_mid}
+use Rattle.std.specs.Prelude.{Option, None, Some, position, is_some}
 use Rattle.std.specs.Io.KnownBytes.{Consumes}
-use Rattle.input.specs.Input.{up_to_end, has_end, placed, taken_line, taken_room, next_from, next_count}
+use Rattle.std.specs.Option.{unwrap_or}
+use Rattle.std.specs.List.{position_or_len}
+use Rattle.std.specs.Io.KnownBytes.{Consumes}
+use Rattle.input.specs.Input.{up_to_end, has_end, taken_line, taken_room}
 use Rattle.input.specs.declared.Taken.{Taken}
-use Rattle.input.specs.declared.Reader.{Reader}
 
--- a line still to be taken comes to an answer and a room
-abbrev pub Comes : List ℕ → ℕ → List ℕ → ℕ → Taken → List ℕ → Type 0
-Comes piece at room count answer after = (taken_line piece at room count ≡ answer) × (taken_room piece at room count ≡ after)
+-- the place of the first LF, or the length
+abbrev first : List ℕ → ℕ
+first = position_or_len (λ byte. eqb byte 10)
 
-pub comes_all : (piece : List ℕ) (at : ℕ) (room : List ℕ) (count : ℕ) → Comes piece at room count (taken_line piece at room count) (taken_room piece at room count)
-comes_all piece at room count = (refl, refl)
+up_to_first : (bytes : List ℕ) → up_to_end bytes ≡ take (first bytes) bytes
+unfolding up_to_end
+up_to_first [] = refl
+up_to_first (byte ∷ rest) = go (eqb byte 10) (up_to_first rest)
+  where
+    go : (t : Bool) → up_to_end rest ≡ take (first rest) rest → cond t [] (byte ∷ up_to_end rest) ≡ take (cond (not t) (1 + first rest) 0) (byte ∷ rest)
+    go true e = refl
+    go false e = let next : 1 + first rest ≡ suc (first rest) = omega arith in rw (next, ← e)
 
-same_taken : (a b c d : ℕ) (e : Bool) → a ≡ b → c ≡ d → ◌≡◌ {A = Taken} (record { at = a; length = c; ended = e }) (record { at = b; length = d; ended = e })
-same_taken a b c d e p q = rw (p, q)
+one_on : (n m : ℕ) → ltb n m ≡ ltb (1 + n) (suc m)
+one_on n m = go (ltb n m) refl
+  where
+    go : (t : Bool) → ltb n m ≡ t → t ≡ ltb (1 + n) (suc m)
+    go true e = sym (lt-ltb _ _ (omega (arith, ltb-true n m e)))
+    go false e = sym (le-ltb _ _ (omega (arith, ltb-false n m e)))
 
-module _ (piece : List ℕ) (at : ℕ) (room : List ℕ) (count : ℕ) where
-  -- at LF, and at the piece's end, nothing more is placed
-  module _ (h : at < length piece) (e : get_or piece at 0 ≡ 10) where
-    ended_line : taken_line piece at room count ≡ record { at = at + 1; length = count; ended = true }
-    unfolding taken_line up_to_end has_end
-    ended_line = rw (left_from piece at h, eq-eqb (get_or piece at 0) 10 e, take-nil (length room - count)) (same_taken _ _ _ _ _ (omega arith) (omega arith))
+has_first : (bytes : List ℕ) → has_end bytes ≡ ltb (first bytes) (length bytes)
+unfolding has_end
+has_first [] = refl
+has_first (byte ∷ rest) = go (eqb byte 10) (has_first rest)
+  where
+    go : (t : Bool) → has_end rest ≡ ltb (first rest) (length rest) → cond t true (has_end rest) ≡ ltb (cond (not t) (1 + first rest) 0) (suc (length rest))
+    go true e = sym (lt-ltb 0 (suc (length rest)) (omega arith))
+    go false e = e ∙ one_on (first rest) (length rest)
 
-    ended_room : taken_room piece at room count ≡ room
-    unfolding taken_room up_to_end
-    ended_room = rw (left_from piece at h, eq-eqb (get_or piece at 0) 10 e, take-nil (length room - count)) refl
+-- the text in front of the first LF, and whether there is one
+module _ (bytes : List ℕ) (end : Option ℕ) (h : end ≡ position (λ byte. eqb byte 10) bytes) where
+  found : is_some end ≡ has_end bytes
+  found = rw (h, has_first bytes) (go (ltb (first bytes) (length bytes)))
+    where
+      go : (t : Bool) → is_some (cond t (Some (first bytes)) None) ≡ t
+      go true = refl
+      go false = refl
 
-  module _ (h : length piece ≤ at) where
-    over_line : taken_line piece at room count ≡ record { at = at; length = count; ended = false }
-    unfolding taken_line up_to_end has_end
-    over_line = rw (drop_of_length-le piece h, take-nil (length room - count)) (same_taken _ _ _ _ _ (omega arith) (omega arith))
+  text_of : take (unwrap_or end (length bytes)) bytes ≡ up_to_end bytes
+  text_of = rw (h, up_to_first bytes) (go (ltb (first bytes) (length bytes)) refl)
+    where
+      go : (t : Bool) → ltb (first bytes) (length bytes) ≡ t → take (unwrap_or (cond t (Some (first bytes)) None) (length bytes)) bytes ≡ take (first bytes) bytes
+      go true e = refl
+      go false e = take_all (length bytes) bytes (omega arith) ∙ sym (take_all (first bytes) bytes (ltb-false _ _ e))
 
-    over_room : taken_room piece at room count ≡ room
-    unfolding taken_room up_to_end
-    over_room = rw (drop_of_length-le piece h, take-nil (length room - count)) refl
+-- from a place on, and so far as there is place
+from_place : (l : List ℕ) (n m : ℕ) → m ≡ min n (length l) → drop m l ≡ drop n l
+from_place l n m e = grind (arith, common_steps)
 
-  -- any other byte is placed, where there is place for it
-  module _ (h : at < length piece) (e : get_or piece at 0 ≡ 10 → ⊥) where
-    text_on : up_to_end (drop at piece) ≡ get_or piece at 0 ∷ up_to_end (drop (at + 1) piece)
-    unfolding up_to_end
-    text_on = rw (left_from piece at h) (simp (ne_eqb (get_or piece at 0) 10 e))
+to_place : (l : List ℕ) (n m : ℕ) → m ≡ min (length l) n → take m l ≡ take n l
+to_place l n m e = grind (arith, common_steps)
 
-    end_on : has_end (drop at piece) ≡ has_end (drop (at + 1) piece)
-    unfolding has_end
-    end_on = rw (left_from piece at h) (simp (ne_eqb (get_or piece at 0) 10 e))
+part_set : (room part : List ℕ) (count at k : ℕ) → at ≡ min count (length room) → k ≡ length part → length part ≤ length room - count → put_mid at k room part ≡ sets room count part
+part_set room part count at k ea ek h = ⊎_elim past within (cases_lt (length room) count)
+  where
+    past : length room < count → put_mid at k room part ≡ sets room count part
+    past l =
+        let none : part ≡ [] = nil_from_length part (omega arith) in
+        let gone : drop k (drop at room) ≡ [] = drop-drop k at room ∙ drop_all (at + k) room (omega arith) in
+        rw (none, take_all at room (omega arith), gone) (append-nil room)
 
-    module _ (k : count < length room) where
-      placed_on : placed room count (up_to_end (drop at piece)) ≡ get_or piece at 0 ∷ take (length room - (count + 1)) (up_to_end (drop (at + 1) piece))
-      placed_on = let n : length room - count ≡ suc (length room - (count + 1)) = omega arith in rw (text_on, n) refl
+    within : count ≤ length room → put_mid at k room part ≡ sets room count part
+    within l =
+        let same : at ≡ count = omega arith in
+        rw (same, ek, sets-eq part room count (omega arith), drop-drop (length part) count room) (sym (append_assoc (take count room) part (drop (count + length part) room)))
 
-      on_line : taken_line piece (at + 1) (set room count (get_or piece at 0)) (count + 1) ≡ taken_line piece at room count
-      unfolding taken_line
-      on_line = rw (placed_on, text_on, end_on, length-set room count (get_or piece at 0)) (same_taken _ _ _ _ _ (omega arith) (omega arith))
+same_taken : (a b c d : ℕ) (e f : Bool) → a ≡ b → c ≡ d → e ≡ f → ◌≡◌ {A = Taken} (record { at = a; length = c; ended = e }) (record { at = b; length = d; ended = f })
+same_taken a b c d e f p q r = cc
 
-      on_room : taken_room piece (at + 1) (set room count (get_or piece at 0)) (count + 1) ≡ taken_room piece at room count
-      unfolding taken_room
-      on_room = rw (placed_on, length-set room count (get_or piece at 0), add-one count) refl
+byte_is : (b : Bool) → bool_byte b ≡ cond b 1 0
+byte_is true = refl
+byte_is false = refl
 
-    module _ (k : length room ≤ count) where
-      full : length room - count ≡ 0
-      full = omega arith
+module _ (piece room : List ℕ) (from count m at placed : ℕ) (end : Option ℕ) (ended : Bool) (rest text : List ℕ) (em : m ≡ min from (length piece)) (er : rest ≡ take (length piece - m) (drop m piece)) (ee : end ≡ position (λ byte. eqb byte 10) rest) (et : text ≡ take (unwrap_or end (length rest)) rest) (ed : ended ≡ is_some end) (ea : at ≡ min count (length room)) (ep : placed ≡ min (length text) (length room - at)) where
+  rest_is : rest ≡ drop from piece
+  rest_is = er ∙ take_rest piece m ∙ from_place piece from m em
 
-      full_line : taken_line piece (at + 1) room count ≡ taken_line piece at room count
-      unfolding taken_line
-      full_line = rw (text_on, end_on, full) (same_taken _ _ _ _ _ (omega arith) refl)
+  text_is : text ≡ up_to_end (drop from piece)
+  text_is = et ∙ text_of rest end ee ∙ ap up_to_end rest_is
 
-      full_room : taken_room piece (at + 1) room count ≡ taken_room piece at room count
-      unfolding taken_room
-      full_room = rw (text_on, full) refl
+  ended_is : ended ≡ has_end (drop from piece)
+  ended_is = ed ∙ found rest end ee ∙ ap has_end rest_is
 
-  -- the same of what a line comes to
-  module _ (answer : Taken) (after : List ℕ) (c : Comes piece at room count answer after) where
-    pub comes_ended : at < length piece → get_or piece at 0 ≡ 10 → (◌≡◌ {A = Taken} (record { at = at + 1; length = count; ended = true }) answer) × (room ≡ after)
-    comes_ended h e = (sym (ended_line h e) ∙ c.0, sym (ended_room h e) ∙ c.1)
+  placed_is : take placed text ≡ take (length room - count) (up_to_end (drop from piece))
+  placed_is = to_place text (length room - count) placed (omega arith) ∙ rw text_is
 
-    pub comes_over : length piece ≤ at → (◌≡◌ {A = Taken} (record { at = at; length = count; ended = false }) answer) × (room ≡ after)
-    comes_over h = (sym (over_line h) ∙ c.0, sym (over_room h) ∙ c.1)
+  taken : (one : ℕ) → one ≡ bool_byte ended → record { at = from + length text + one; length = count + placed; ended = ended } ≡ taken_line piece from room count
+  unfolding taken_line
+  taken one eo =
+      let size : length text ≡ length (up_to_end (drop from piece)) = ap length text_is in
+      let last : one ≡ cond (has_end (drop from piece)) 1 0 = eo ∙ byte_is ended ∙ ap (λ (b : Bool). cond b 1 0) ended_is in
+      let part : length (take (length room - count) (up_to_end (drop from piece))) ≡ min (length room - count) (length (up_to_end (drop from piece))) = length-take _ _ in
+      same_taken _ _ _ _ _ _ (omega arith) (omega arith) ended_is
 
-    pub comes_on : at < length piece → (get_or piece at 0 ≡ 10 → ⊥) → count < length room → Comes piece (at + 1) (set room count (get_or piece at 0)) (count + 1) answer after
-    comes_on h e k = (on_line h e k ∙ c.0, on_room h e k ∙ c.1)
+  room_taken : (part : List ℕ) (k : ℕ) → part ≡ take placed text → k ≡ placed → put_mid at k room part ≡ taken_room piece from room count
+  unfolding taken_room
+  room_taken part k e ek =
+      let size : length part ≡ min placed (length text) = ap length e ∙ length-take _ _ in
+      part_set room part count at k ea (omega arith) (omega arith) ∙ ap (sets room count) (e ∙ placed_is)
 
-    pub comes_full : at < length piece → (get_or piece at 0 ≡ 10 → ⊥) → length room ≤ count → Comes piece (at + 1) room count answer after
-    comes_full h e k = (full_line h e k ∙ c.0, full_room h e k ∙ c.1)
-
--- a turn: what is taken of a part that is the piece's bytes, from the place where they are next
-pub next_taken : (r : Reader) (bytes part room after : List ℕ) (from count : ℕ) (taken : Taken) → part ≡ bytes → from ≡ next_from r → count ≡ next_count r → (taken ≡ taken_line part from room count) × (after ≡ taken_room part from room count) → (taken ≡ taken_line bytes (next_from r) room (next_count r)) × (after ≡ taken_room bytes (next_from r) room (next_count r))
-next_taken r bytes part room after from count taken e f k (p, q) = (rw (← e, ← f, ← k) p, rw (← e, ← f, ← k) q)
+  pub line_taken : (one k : ℕ) (part : List ℕ) → one ≡ bool_byte ended → part ≡ take placed text → k ≡ placed → (record { at = from + length text + one; length = count + placed; ended = ended } ≡ taken_line piece from room count) × (put_mid at k room part ≡ taken_room piece from room count)
+  line_taken one k part eo e ek = (taken one eo, room_taken part k e ek)
 
 -- a turn that reads nothing leaves what a reader has left
 pub none_taken : (known : Option (List ℕ)) → Consumes known known []

@@ -11,6 +11,7 @@ use registers::Registers;
 use signals::Signals;
 
 // A tick's refusal or 0, and what it puts out.
+// As it is: `lent/specs/Lent.antt`, `answer_of`, speaks of the number 0, and of silence beside a refusal.
 #[derive(Clone, Copy)]
 pub struct Answer {
     pub refusal: u32,

@@ -1,2 +1,3 @@
 -- The rules of lines and frames.
 pub mod Lines
+pub mod Narrow

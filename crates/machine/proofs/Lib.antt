@@ -1,5 +1,5 @@
 -- Laws and theorems of the machine's rules.
-mod Cases
+pub mod Cases
 pub mod Soundness
 pub mod Theorems
 pub mod Unused

@@ -16,16 +16,18 @@ fn changes_format(r: Registers, value: u32) -> bool
 }
 
 // Refusals 10 to 18 of a control write with bit 0 set.
+#[tactic(auto, unfolding(crate::specs::Access::start_limit))]
 fn start_limit(r: Registers, p: Place, value: u32) -> u32
     ensures refusal { result ≡ start_limit r p value }
 {
     let params = r.params;
     let s = units::screen_of(params, control::is_interlaced(value));
     let checked = map::is_control(p) & control::is_running(value);
-    base::first(checked, limits::limit(value, s), 0)
+    base::choose(checked, limits::limit(value, s), 0)
 }
 
 // The first of 2, 1, 3, 4 and 10 to 18 that holds of a write, or 0.
+#[tactic(auto, unfolding(crate::specs::Access::write_refusal))]
 pub fn write_refusal(r: Registers, p: Place, value: u32) -> u32
     ensures refusal { result ≡ write_refusal r p value }
 {
@@ -33,8 +35,8 @@ pub fn write_refusal(r: Registers, p: Place, value: u32) -> u32
     let wide = map::widest(p) < value;
     let busy = map::is_parameter(p) & control::is_running(r.control);
     let unknown = map::is_control(p) & (control::is_outside(value) | changes_format(r, value));
-    let n4 = base::first(unknown, 4, start_limit(r, p, value));
-    let n3 = base::first(busy, 3, n4);
-    let n1 = base::first(wide, 1, n3);
-    base::first(closed, 2, n1)
+    let n4 = base::choose(unknown, 4, start_limit(r, p, value));
+    let n3 = base::choose(busy, 3, n4);
+    let n1 = base::choose(wide, 1, n3);
+    base::choose(closed, 2, n1)
 }

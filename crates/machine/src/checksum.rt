@@ -12,13 +12,11 @@ const BYTES: [u32; 3] = [1, 0x100, 0x10000];
 pub fn checksum_word(k: u32, sums: Sums) -> u32
     ensures word { result ≡ get_or (checksum_words sums) k 0 }
 {
-    let i = k as usize;
-    if i < 3 {
-        let one = BYTES[i];
-        let red = sums.red / one % 0x100;
-        let green = sums.green / one % 0x100;
-        let blue = sums.blue / one % 0x100;
-        return channels::join(red as u8, green as u8, blue as u8);
-    }
-    0
+    let Some(one) = BYTES.get(k as usize) else {
+        return 0;
+    };
+    let red = sums.red / one % 0x100;
+    let green = sums.green / one % 0x100;
+    let blue = sums.blue / one % 0x100;
+    channels::join(red as u8, green as u8, blue as u8)
 }

@@ -13,6 +13,7 @@ use registers::map::Place;
 use registers::{Registers, map};
 use signals::Signals;
 
+// As it is: no ghost field says the one condition `Sound`: `write` and the theorems on it speak of any machine; a type that had it would ask more.
 #[derive(Clone, Copy)]
 pub struct Machine {
     pub regs: Registers,
@@ -20,6 +21,7 @@ pub struct Machine {
 }
 
 // A write's refusal or 0, and the machine after it.
+// As it is: `demands/specs/Demand1.antt`, `write` and `write_refused`, speak of the number 0 and of the machine beside a refusal.
 #[derive(Clone, Copy)]
 pub struct Written {
     pub refusal: u32,
@@ -27,6 +29,7 @@ pub struct Written {
 }
 
 // A read's refusal or 0, the value, and the machine after it.
+// As it is: `demands/specs/Demand1.antt`, `read` and `read_refused`, speak of the number 0 and of value and machine beside a refusal.
 #[derive(Clone, Copy)]
 pub struct Answered {
     pub refusal: u32,
@@ -35,6 +38,7 @@ pub struct Answered {
 }
 
 // A tick's refusal or 0, what it puts out, and the machine after it.
+// As it is: `demands/specs/Demand1.antt`, `tick` and `tick_refused`, speak of the number 0 and of signals and machine beside a refusal.
 #[derive(Clone, Copy)]
 pub struct Advanced {
     pub refusal: u32,
@@ -43,6 +47,7 @@ pub struct Advanced {
 }
 
 // The first of 2, 3 and 5 that holds of a read, or 0.
+#[tactic(auto, unfolding(crate::specs::Rules::read_refusal))]
 fn read_refusal(m: Machine, p: Place) -> u32
     requires { SoundMachine m }
     ensures refusal { result ≡ read_refusal m p }
@@ -51,19 +56,20 @@ fn read_refusal(m: Machine, p: Place) -> u32
     let generator = m.generator;
     let busy = map::is_parameter(p) & control::is_running(regs.control);
     let summing = map::is_checksum(p) & generator::is_displaying(regs, generator);
-    let n5 = base::first(summing, 5, 0);
-    let n3 = base::first(busy, 3, n5);
-    base::first(map::is_reserved(p), 2, n3)
+    let n5 = base::choose(summing, 5, 0);
+    let n3 = base::choose(busy, 3, n5);
+    base::choose(map::is_reserved(p), 2, n3)
 }
 
 // What stands at a place.
+#[tactic(auto, unfolding(crate::specs::Rules::value_at))]
 fn value_at(m: Machine, p: Place) -> u32
     ensures value { result ≡ value_at m p }
 {
     let regs = m.regs;
     let sums = m.generator.sums;
     let word = checksum::checksum_word(map::number_in_row(p), sums);
-    base::first(map::is_checksum(p), word, regs.value(p))
+    base::choose(map::is_checksum(p), word, regs.value(p))
 }
 
 impl Machine {
@@ -77,6 +83,7 @@ impl Machine {
     }
 
     // The machine after an accepted write.
+    #[tactic(auto, unfolding(crate::specs::Rules::stored))]
     fn stored(self, p: Place, value: u32) -> Machine
         ensures machine { result ≡ stored self p value }
     {
@@ -84,16 +91,14 @@ impl Machine {
         let starting = map::is_control(p)
             & control::is_running(value)
             & !control::is_running(old.control);
-        let regs = old.stored(p, value);
-        if starting {
-            let generator = Generator::fresh();
-            return Machine { regs, generator };
+        Machine {
+            regs: old.stored(p, value),
+            generator: base::choose(starting, Generator::fresh(), self.generator),
         }
-        let generator = self.generator;
-        Machine { regs, generator }
     }
 
     // A register write.
+    #[tactic(auto, unfolding(crate::specs::Rules::written))]
     pub fn write(self, address: u32, value: u32) -> Written
         ensures written { result ≡ written self address value }
     {
@@ -111,6 +116,7 @@ impl Machine {
     }
 
     // A register read.
+    #[tactic(auto, unfolding(crate::specs::Rules::answered))]
     pub fn read(self, address: u32) -> Answered
         requires { SoundMachine self }
         ensures answered { result ≡ answered self address }
@@ -132,6 +138,7 @@ impl Machine {
     }
 
     // One tick, with a picture memory lent.
+    #[tactic(auto, unfolding(crate::specs::Rules::advanced))]
     pub fn tick(self, memory: &[u8]) -> Advanced
         requires { SoundMachine self }
         ensures advanced { result ≡ advanced self memory.now }

@@ -1,2 +1,2 @@
 -- Laws of marks and lines.
-mod Cases
+pub mod Any

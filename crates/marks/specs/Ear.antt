@@ -1,5 +1,5 @@
 -- One ear on the chart: frequency left to right on octaves, level downwards. Assumes nothing.
-use Rattle.std.specs.Prelude.{ℕ, zero, suc, ◌+◌, ◌*◌, ◌-◌, Bool, cond, ◌&&◌, ◌||◌, List, [], ◌∷◌, ltb, leb, get_or}
+use Rattle.std.specs.Prelude.{ℕ, zero, suc, ◌+◌, ◌*◌, ◌-◌, Bool, cond, ◌&&◌, ◌||◌, List, [], ◌∷◌, Option, Some, None, ltb, leb, get_or}
 use Rattle.base.specs.Count.{some}
 use Rattle.marks.specs.Marks.{mark, line}
 use Rattle.marks.specs.declared.points.Point.{Point}
@@ -24,6 +24,11 @@ key_of right = cond right (record { x = 556; y = 52 }) (record { x = 556; y = 84
 unfoldable pub last_before : List ℕ → ℕ → ℕ
 last_before levels zero = 0
 last_before levels (suc k) = cond (measured (get_or levels k 0)) (k + 1) (last_before levels k)
+
+-- one more than a frequency, or 0 for none
+abbrev pub place_after : Option ℕ → ℕ
+place_after None = 0
+place_after (Some k) = k + 1
 
 -- frequency k was measured, and its mark covers the pixel, or the line to it from the one measured before
 unfoldable pub covered_at : Bool → List ℕ → Point → ℕ → ℕ → Bool

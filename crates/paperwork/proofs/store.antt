@@ -1,2 +1,2 @@
--- Laws of a sheet that is written into a part of a room.
+-- Laws of a sheet's values.
 mod Cases

@@ -9,7 +9,7 @@ ghost use Rattle.sheet.specs.Field.{field_of};
 ghost use Rattle.vault.specs.Compare.{compared};
 ghost use Rattle.room.specs.Bytes.{bytes_from};
 
-use room::bytes::{bytes_of, one_less};
+use room::bytes::bytes_of;
 use room::lent;
 use script::command::Command;
 use sheet::field;
@@ -31,7 +31,7 @@ pub fn field_of(c: Command) -> field::Answer
 {
     let left = c.left;
     let values = left.values;
-    let count = one_less(left.count);
+    let count = left.count.saturating_sub(1);
     let bytes = bytes_of(&values, 1);
     field::field(lent(&bytes, count), values[0])
 }

@@ -7,6 +7,7 @@ use script::command::Command;
 use sheet::writer;
 
 // What a `store` answers: a refusal or 0, the room, and its bytes.
+// As it is: the refusal is document 01's number, the bytes are answered beside it too (`stored_of`), and no heap holds as many as the room.
 #[derive(Clone, Copy)]
 pub struct Stored {
     pub refusal: u32,
@@ -19,11 +20,7 @@ fn sheet_values(numbers: [u32; 81]) -> [u32; 14]
     ensures values { result ≡ sheet_values numbers }
 {
     let mut sheet = [0u32; 14];
-    let mut k: usize = 0;
-    while k < 14 {
-        sheet[k] = numbers[1 + k];
-        k += 1;
-    }
+    sheet.copy_from_slice(&numbers[1..15]);
     sheet
 }
 
@@ -33,10 +30,8 @@ fn written_into(values: [u32; 14], room: &mut [u8], count: usize) -> u32
     ensures refusal { result ≡ write_refusal values (take count room.old) }
     ensures bytes { room.new ≡ written_into values room.old count }
 {
-    if count <= room.len() {
-        return writer::write(values, &mut room[..count]);
-    }
-    writer::write(values, room)
+    let end = count.min(room.len());
+    writer::write(values, &mut room[..end])
 }
 
 // `store`: fourteen values as a sheet, in a room whose bytes are #AA before.

@@ -1,3 +1,2 @@
 -- Laws of a patient's sheet.
-mod Cases
 pub mod Worked

@@ -1,21 +1,8 @@
 -- A patient's thresholds by ear and frequency, and a line's levels put among them. Assumes nothing.
-use Rattle.std.specs.Prelude.{ℕ, Bool, not, cond, ltb, eqb, get_or, set, replicate}
+use Rattle.std.specs.Prelude.{ℕ, Bool, false, not, cond, Option, Some, None, Result, Ok, Err, is_some, is_none, ltb, eqb, get_or, set, replicate}
+use Rattle.patient.specs.declared.Fault.{Fault}
+use Rattle.patient.specs.declared.Fault.TheVariants.{UnknownFrequency, GivenTwice, MissingEar, TooManyWords}
 use Rattle.patient.specs.declared.thresholds.Chart.{Chart}
-use Rattle.patient.specs.declared.thresholds.Level.{Level}
-use Rattle.patient.specs.declared.thresholds.Reading.{Reading}
-
--- what is wrong with a line, as numbers
-abbrev pub unknown_frequency : ℕ
-unknown_frequency = 1
-
-abbrev pub given_twice : ℕ
-given_twice = 2
-
-abbrev pub missing_ear : ℕ
-missing_ear = 3
-
-abbrev pub too_many_words : ℕ
-too_many_words = 4
 
 -- no line has given a frequency yet: a level that no chart shows
 abbrev pub not_given : ℕ
@@ -26,21 +13,39 @@ abbrev pub fresh : Chart
 fresh = record { right = replicate 11 not_given; left = replicate 11 not_given }
 
 -- the first fault of a line: the frequency, then the words, then the levels
-abbrev pub fault_of : Bool → ℕ → ℕ → ℕ → ℕ → ℕ
+abbrev pub fault_of : Bool → Option ℕ → ℕ → Option Fault → Option Fault → Option Fault
 fault_of given k words right left =
-    cond (eqb k 11) unknown_frequency
-    (cond given given_twice
-    (cond (ltb words 3) missing_ear
-    (cond (ltb 3 words) too_many_words
-    (cond (eqb right 0) left right))))
+    cond (is_none k) (Some UnknownFrequency)
+    (cond given (Some GivenTwice)
+    (cond (ltb words 3) (Some MissingEar)
+    (cond (ltb 3 words) (Some TooManyWords)
+    (cond (is_some right) right left))))
+
+-- a line has given a frequency of the chart
+abbrev pub given_on : Chart → Option ℕ → Bool
+given_on chart None = false
+given_on chart (Some k) = not (eqb (get_or chart.right k 0) not_given)
+
+-- what is wrong with a level
+abbrev pub fault_in : Result ℕ Fault → Option Fault
+fault_in (Ok number) = None
+fault_in (Err fault) = Some fault
 
 -- the fault of a line for a chart
-unfoldable pub placed_fault : Chart → ℕ → ℕ → Level → Level → ℕ
-placed_fault chart k words right left = fault_of (not (eqb (get_or chart.right k 0) not_given)) k words right.fault left.fault
+unfoldable pub placed_fault : Chart → Option ℕ → ℕ → Result ℕ Fault → Result ℕ Fault → Option Fault
+placed_fault chart k words right left = fault_of (given_on chart k) k words (fault_in right) (fault_in left)
 
--- the levels on the chart: the first is the right ear's, the second the left ear's; a fault leaves the chart as it was
-unfoldable pub placed : Chart → ℕ → ℕ → Level → Level → Reading
-placed chart k words right left =
-    cond (eqb (placed_fault chart k words right left) 0)
-    (record { fault = 0; chart = record { right = set chart.right k right.number; left = set chart.left k left.number } })
-    (record { fault = placed_fault chart k words right left; chart = chart })
+-- the chart with two levels at a frequency
+abbrev pub levelled : Chart → Option ℕ → Result ℕ Fault → Result ℕ Fault → Chart
+levelled chart None right left = chart
+levelled chart (Some k) (Err fault) left = chart
+levelled chart (Some k) (Ok r) (Err fault) = chart
+levelled chart (Some k) (Ok r) (Ok l) = record { right = set chart.right k r; left = set chart.left k l }
+
+abbrev pub unless_fault : Option Fault → Chart → Result Chart Fault
+unless_fault None chart = Ok chart
+unless_fault (Some fault) chart = Err fault
+
+-- the levels on the chart: the first is the right ear's, the second the left ear's; a fault gives no chart
+unfoldable pub placed : Chart → Option ℕ → ℕ → Result ℕ Fault → Result ℕ Fault → Result Chart Fault
+placed chart k words right left = unless_fault (placed_fault chart k words right left) (levelled chart k right left)

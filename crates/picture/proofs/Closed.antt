@@ -208,16 +208,16 @@ module _ (r : Registers) (g : Generator) (sound : Sound r g) (begins : refuses22
   ticks m = whole r m g sound begun.0 (record { field = begun.1; half = eqb-true _ _ begun.2; at = eqb-true _ _ begun.3 })
 
 -- the refusal: 22, and the later two
-module _ (r : Registers) (m : List ℕ) (g : Generator) (size : ℕ) (sound : Sound r g) (early : Bool) (ee : early ≡ refuses22 r g) where
-  pub refusal_22 : early ≡ true → 22 ≡ picture_refusal r m g size
+module _ (r : Registers) (m : List ℕ) (g : Generator) (size : ℕ) where
+  pub refusal_22 : refuses22 r g ≡ true → 22 ≡ picture_refusal r m g size
   unfolding picture_refusal
-  refusal_22 t = simp (sym ee ∙ t)
+  refusal_22 early = simp early
 
-  pub refusal_later : early ≡ false → (pixels whole : ℕ) → pixels ≡ frame_pixels (screen r) → whole ≡ capped (bytes_for pixels) → (far : Bool) → far ≡ picture_refuses20 r m → (later n : ℕ) → later ≡ cond far 20 0 → n ≡ cond (not (eqb size whole)) 21 later → n ≡ picture_refusal r m g size
+  pub refusal_later : Sound r g → refuses22 r g ≡ false → (pixels whole : ℕ) → pixels ≡ frame_pixels (screen r) → whole ≡ capped (bytes_for pixels) → (far : Bool) → far ≡ picture_refuses20 r m → (later n : ℕ) → later ≡ cond far 20 0 → n ≡ cond (not (eqb size whole)) 21 later → n ≡ picture_refusal r m g size
   unfolding picture_refusal
-  refusal_later f pixels whole ep ew far ef later n el en =
-      let held : capped (bytes_for (frame_pixels (screen r))) ≡ 3 * frame_pixels (screen r) = omega (arith, visible_fit (screen r) (narrow (screen r) (drawable r g sound (sym ee ∙ f)).accepted.bounded)) in
-      simp (sym ee ∙ f, (ticks r g sound (sym ee ∙ f) m).refusal) (en ∙ rw (el, ef, ew, ep, held))
+  refusal_later sound begins pixels whole ep ew far ef later n el en =
+      let held : capped (bytes_for (frame_pixels (screen r))) ≡ 3 * frame_pixels (screen r) = omega (arith, visible_fit (screen r) (narrow (screen r) (drawable r g sound begins).accepted.bounded)) in
+      simp (begins, (ticks r g sound begins m).refusal) (en ∙ rw (el, ef, ew, ep, held))
 
 -- no refusal: what that says
 record Free (r : Registers) (m : List ℕ) (g : Generator) (size : ℕ) : Type 0 where

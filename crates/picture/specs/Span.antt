@@ -10,6 +10,7 @@ use Rattle.pixel.specs.declared.Sums.{Sums}
 use Rattle.cursor.specs.Cursor.{code_over}
 use Rattle.picture.specs.Stretch.{Small}
 use Rattle.picture.specs.declared.stretch.Stretch.{Stretch}
+use Rattle.picture.specs.declared.span.Brush.{Brush}
 
 -- red, green, blue for each colour, in order
 unfoldable pub bytes_of : List ℕ → List ℕ
@@ -33,6 +34,10 @@ pub record Through : Type 0 where
 abbrev pub through : ℕ → ℕ → List ℕ → List ℕ → List ℕ → List ℕ → Through
 through control position table store colours memory =
     record { control = control; position = position; table = table; store = store; colours = colours; memory = memory }
+
+-- the same of a brush
+abbrev pub through_by : Brush → Through
+through_by b = through b.control b.position b.table.now b.store.now b.colours.now b.memory.now
 
 -- what a place shows through a table of 256 colours, without the cursor
 abbrev pub plain_colour : ℕ → List ℕ → List ℕ → ℕ → ℕ

@@ -15,10 +15,11 @@ ghost use Rattle.picture.specs.Span.{bytes_of};
 ghost use Rattle.generator.specs.Rows.{screen};
 ghost use Rattle.generator.specs.Sound.{Sound};
 ghost use Rattle.frame.specs.Frame.{ticks_seen, field_dots, frame_dots, picture_refuses20, sums_to, field_end, frame_end};
-ghost use Rattle.picture.specs.Picture.{bytes_for, picture_refusal, drawn_of, buffer_of};
-ghost use Rattle.picture.specs.Plan.{seen_before, plan_of, Drawable, Sized, end_in};
+ghost use Rattle.picture.specs.Picture.{bytes_for, refuses22, picture_refusal, drawn_of, buffer_of};
+ghost use Rattle.picture.specs.Plan.{seen_before, plan_of, Drawable, end_in};
 
-use crate::plan::Plan;
+use crate::plan::SizedPlan;
+use crate::span::Brush;
 use generator::Generator;
 use pixel::Sums;
 use registers::Registers;
@@ -26,6 +27,7 @@ use units::{HalfLines, ScreenUnits};
 pub use whole::{Pictured, draw_machine};
 
 // The refusal, or 0, and the generator after the picture.
+// As it is: the definition drawn_of has the number beside the generator, and `pictured` and speed's `shown` are made of it.
 #[derive(Clone, Copy)]
 pub struct Drawn {
     pub refusal: u32,
@@ -63,75 +65,86 @@ fn refuses_20(r: Registers, memory: &[u8]) -> bool
     first
 }
 
-// The refusal of a picture into `size` bytes, or 0: settled before a byte is written. 22: stopped, or not before the first tick of a frame.
+// 22: asked while stopped, or not before the first tick of a frame.
+fn refuses_22(r: Registers, g: Generator) -> bool
+    ensures refusal { result ≡ refuses22 r g }
+{
+    let on = control::is_running(r.control);
+    let start = generator::is_start(g);
+    !on | !start
+}
+
+// The refusal of a picture into `size` bytes, or 0: settled before a byte is written.
+#[tactic(auto, using(crate::proofs::Closed::drawable, crate::proofs::Closed::refusal_22, crate::proofs::Closed::refusal_later))]
 fn refusal_of(r: Registers, g: Generator, memory: &[u8], size: u64) -> u32
     requires { Sound r g }
     ensures refusal { result ≡ picture_refusal r memory.now g size }
 {
-    let on = control::is_running(r.control);
-    let start = generator::is_start(g);
-    if !on | !start {
+    if refuses_22(r, g) {
         return 22;
     }
     let wrong = size != bytes_for(pixels_of(r));
     let far = refuses_20(r, memory);
-    base::first(wrong, 21, base::first(far, 20, 0))
+    base::choose(wrong, 21, base::choose(far, 20, 0))
 }
 
-// The bytes from `from` up to, not including, `end` are 0.
+// The bytes from `from` up to, not including, `end` are 0. No memory is lent here, so `.ci/fetch` takes it for no fetch.
 fn blacken(buffer: &mut [u8], from: usize, end: usize)
     requires { (from ≤ end) × (end ≤ length buffer.old) }
     ensures bytes { buffer.new ≡ sets buffer.old from (replicate (end - from) 0) }
 {
-    let mut k = from;
-    while k < end {
-        buffer[k] = 0;
-        k += 1;
-    }
+    buffer[from..end].fill(0);
 }
 
 // The picture of a field that nothing refuses, behind that of the field before, and its sums. Forced blank: black, nothing read, nothing added.
-fn paint_field(r: Registers, p: Plan, memory: &[u8], buffer: &mut [u8]) -> Sums
-    requires drawable { Drawable r }
-    requires p_value { p ≡ plan_of r p.second }
-    requires visible_in_bounds { 12 * (p.before + p.visible) ≤ length buffer.old }
-    ensures sums { result ≡ sums_to r p.second memory.now p.visible }
-    ensures bytes { buffer.new ≡ sets buffer.old (12 * p.before) (bytes_of (colours_of (field_dots r memory.now p.second))) }
+fn paint_field(r: Registers, p: SizedPlan, memory: &[u8], buffer: &mut [u8]) -> Sums
+    requires plan { p.plan ≡ plan_of r p.plan.second }
+    requires fits { 12 * (p.plan.before + p.plan.visible) ≤ length buffer.old }
+    ensures sums { result ≡ sums_to r p.plan.second memory.now p.plan.visible }
+    ensures bytes { buffer.new ≡ sets buffer.old (12 * p.plan.before) (bytes_of (colours_of (field_dots r memory.now p.plan.second))) }
 {
+    let plan = p.plan;
     let palette = r.palette;
     let store = r.store;
     let colours = r.colours;
     let blank = control::is_forced_blank(r.control);
     if blank {
-        blacken(
-            buffer,
-            (12 * p.before) as usize,
-            (12 * (p.before + p.visible)) as usize,
-        );
+        let from = (12 * plan.before) as usize;
+        let end = (12 * (plan.before + plan.visible)) as usize;
+        blacken(buffer, from, end);
         return Sums::none();
     }
     let table = colour::masked_palette(&palette, r.mask);
-    plan::draw_rows(buffer, memory, p, &table, &store, &colours)
+    let brush = Brush {
+        control: plan.control,
+        position: plan.position,
+        table: &table,
+        store: &store,
+        colours: &colours,
+        memory,
+    };
+    plan::draw_rows(buffer, p, brush)
 }
 
 // The generator at a field's end, with these sums. A field that shows nothing leaves the last request as it was.
-fn end_of(p: Plan, asked: bool, sums: Sums) -> Generator
-    requires { Sized p }
-    ensures end { result ≡ end_in p asked sums }
+#[tactic(auto, unfolding(crate::specs::Plan::end_in))]
+fn end_of(p: SizedPlan, asked: bool, sums: Sums) -> Generator
+    ensures end { result ≡ end_in p.plan asked sums }
 {
-    let some = 0 < p.visible;
-    let last = base::choose(some, p.visible, 1) - 1;
-    let interlaced = control::is_interlaced(p.control);
-    let on = control::is_transferring(p.control);
+    let plan = p.plan;
+    let some = 0 < plan.visible;
+    let last = plan.visible.saturating_sub(1);
+    let interlaced = control::is_interlaced(plan.control);
+    let on = control::is_transferring(plan.control);
     let held = plan::address_at(p, last);
-    let asks = request::is_asking(on, p.meminit, last % p.row);
+    let asks = request::is_asking(on, plan.meminit, last % plan.row);
     Generator {
-        second: interlaced & !p.second,
+        second: interlaced & !plan.second,
         half: HalfLines(0),
         at: ScreenUnits(0),
         seen: ScreenUnits(0),
         held: held as u32,
-        asked: base::level(some, asks, asked),
+        asked: base::choose(some, asks, asked),
         sums,
     }
 }
@@ -145,7 +158,7 @@ fn draw_field(
     buffer: &mut [u8],
 ) -> Generator
     requires drawable { Drawable r }
-    requires second_in_bounds { 12 * (seen_before r second + ticks_seen r second) ≤ length buffer.old }
+    requires fits { 12 * (seen_before r second + ticks_seen r second) ≤ length buffer.old }
     ensures end { result ≡ field_end r second memory.now g.asked }
     ensures bytes { buffer.new ≡ sets buffer.old (12 * seen_before r second) (bytes_of (colours_of (field_dots r memory.now second))) }
 {
@@ -157,7 +170,7 @@ fn draw_field(
 // The picture of a frame that nothing refuses, and the generator after it.
 fn draw_frame(r: Registers, g: Generator, memory: &[u8], buffer: &mut [u8]) -> Generator
     requires drawable { Drawable r }
-    requires buffer_len { length buffer.old ≡ 3 * frame_pixels (screen r) }
+    requires size { length buffer.old ≡ 3 * frame_pixels (screen r) }
     ensures end { result ≡ frame_end r memory.now }
     ensures bytes { buffer.new ≡ bytes_of (colours_of (frame_dots r memory.now)) }
 {

@@ -4,10 +4,11 @@ ghost use Rattle.base.specs.Count.{run, some};
 ghost use Rattle.control.specs.Control.{pixel_bits};
 ghost use Rattle.memory.specs.Memory.{ends_beyond};
 ghost use Rattle.pixel.specs.Sums.{none};
-ghost use Rattle.picture.specs.Span.{Painted, through};
+ghost use Rattle.picture.specs.Span.{Painted, through_by};
 ghost use Rattle.picture.specs.Plan.{plan_of, Drawable, Sized, address_in, place_in, colour_in, refuses_in, Cut};
 
 use crate::span;
+use crate::span::Brush;
 use crate::stretch::Stretch;
 use pixel::Sums;
 use registers::Registers;
@@ -30,10 +31,18 @@ pub struct Plan {
     pub position: u32,
 }
 
-pub fn plan_of(r: Registers, second: bool) -> Plan
+// The same of a field that may be drawn: 24 bits bound its numbers.
+#[derive(Clone, Copy)]
+pub struct SizedPlan {
+    pub plan: Plan,
+    ghost sized: { Sized plan },
+}
+
+// Those of a field of a screen.
+#[tactic(auto, unfolding(crate::specs::Plan::plan_of), using(memory::proofs::Laws::one_bit, generator::proofs::Bare::top_bare))]
+fn numbers_of(r: Registers, second: bool) -> Plan
     requires { Drawable r }
     ensures plan { result ≡ plan_of r second }
-    ensures sized { Sized result }
 {
     let params = r.params;
     let interlaced = control::is_interlaced(r.control);
@@ -61,60 +70,74 @@ pub fn plan_of(r: Registers, second: bool) -> Plan
     }
 }
 
+// The same, sized.
+#[tactic(auto, using(crate::proofs::plan::Sizes::sized))]
+pub fn plan_of(r: Registers, second: bool) -> SizedPlan
+    requires { Drawable r }
+    ensures plan { result.plan ≡ plan_of r second }
+{
+    SizedPlan {
+        plan: numbers_of(r, second),
+    }
+}
+
 // The address held at visible tick v.
-pub fn address_at(p: Plan, v: u64) -> u64
-    requires sized { Sized p }
-    requires v_le_visible { v ≤ p.visible }
-    ensures address { result ≡ address_in p v }
+#[tactic(auto, unfolding(crate::specs::Plan::address_in))]
+pub fn address_at(p: SizedPlan, v: u64) -> u64
+    requires { v ≤ p.plan.visible }
+    ensures address { result ≡ address_in p.plan v }
     ensures bound { result < 2 ^ 24 }
 {
-    (p.top + v / p.row * p.increment) % 0x1000000
+    let plan = p.plan;
+    (plan.top + v / plan.row * plan.increment) % 0x1000000
 }
 
 // The place of the first pixel of visible tick v.
-fn first_place(p: Plan, v: u64) -> u64
-    requires sized { Sized p }
-    requires v_lt_visible { v < p.visible }
-    ensures place { result ≡ place_in p (4 * v) }
+#[tactic(auto, using(crate::proofs::plan::Segments::place_by))]
+fn first_place(p: SizedPlan, v: u64) -> u64
+    requires { v < p.plan.visible }
+    ensures place { result ≡ place_in p.plan (4 * v) }
     ensures bound { result < 2 ^ 60 }
 {
+    let plan = p.plan;
     let address = address_at(p, v);
-    (address / p.divisor * p.row + v % p.row) * 4
+    (address / plan.divisor * plan.row + v % plan.row) * 4
 }
 
 // The segment from visible tick v on: the pixels up to the line's end, the row's or the field's.
-fn segment_at(p: Plan, v: u64) -> Stretch
-    requires sized { Sized p }
-    requires v_lt_visible { v < p.visible }
-    ensures segment { Cut p v result }
+fn segment_at(p: SizedPlan, v: u64) -> Stretch
+    requires { v < p.plan.visible }
+    ensures segment { Cut p.plan v result }
 {
-    let along = v + p.lead;
-    let column = along % p.display;
-    let line = p.display - column;
-    let row = p.row - v % p.row;
-    let left = p.visible - v;
-    let near = base::choose(line <= row, line, row);
-    let ticks = base::choose(near <= left, near, left);
+    let plan = p.plan;
+    let along = v + plan.lead;
+    let column = along % plan.display;
+    let line = plan.display - column;
+    let row = plan.row - v % plan.row;
+    let left = plan.visible - v;
+    let ticks = line.min(row).min(left);
     let from = first_place(p, v);
     Stretch {
-        at: (12 * (p.before + v)) as usize,
+        at: (12 * (plan.before + v)) as usize,
         from,
         x: (4 * column) as u32,
-        y: (along / p.display) as u32,
+        y: (along / plan.display) as u32,
         count: 4 * ticks,
     }
 }
 
 // Some place of the field ends beyond the memory: in each segment the last one does where any does.
-fn is_beyond(p: Plan, memory: &[u8]) -> bool
-    requires { Sized p }
-    ensures test { result ≡ some (λ i. ends_beyond (pixel_bits p.control) memory.now (place_in p i)) (4 * p.visible) }
+#[tactic(auto, unfolding(base::specs::Count::some))]
+fn is_beyond(p: SizedPlan, memory: &[u8]) -> bool
+    ensures test { result ≡ some (λ i. ends_beyond (pixel_bits p.plan.control) memory.now (place_in p.plan i)) (4 * p.plan.visible) }
 {
+    let plan = p.plan;
     let mut beyond = false;
     let mut v: u64 = 0;
-    while v < p.visible {
+    // As it is: a turn goes on by as many ticks as its segment has, which no range does.
+    while v < plan.visible {
         let s = segment_at(p, v);
-        let far = memory::ends_beyond(p.control, memory, s.from + s.count - 1);
+        let far = memory::ends_beyond(plan.control, memory, s.from + s.count - 1);
         beyond = beyond | far;
         v += s.count / 4;
     }
@@ -122,12 +145,13 @@ fn is_beyond(p: Plan, memory: &[u8]) -> bool
 }
 
 // Refusal 20 of the whole field; with blanking forced or transfers off nothing is read.
-pub fn refuses_20(p: Plan, memory: &[u8]) -> bool
-    requires { Sized p }
-    ensures refusal { result ≡ refuses_in p memory.now }
+#[tactic(auto, unfolding(crate::specs::Plan::refuses_in))]
+pub fn refuses_20(p: SizedPlan, memory: &[u8]) -> bool
+    ensures refusal { result ≡ refuses_in p.plan memory.now }
 {
-    let blank = control::is_forced_blank(p.control);
-    let on = control::is_transferring(p.control);
+    let control = p.plan.control;
+    let blank = control::is_forced_blank(control);
+    let on = control::is_transferring(control);
     if !blank & on {
         return is_beyond(p, memory);
     }
@@ -135,31 +159,19 @@ pub fn refuses_20(p: Plan, memory: &[u8]) -> bool
 }
 
 // The field, segment by segment, into a buffer that holds it.
-pub fn draw_rows(
-    buffer: &mut [u8],
-    memory: &[u8],
-    p: Plan,
-    table: &[u32; 256],
-    store: &[u16; 512],
-    colours: &[u32; 3],
-) -> Sums
-    requires sized { Sized p }
-    requires visible_in_bounds { 12 * (p.before + p.visible) ≤ length buffer.old }
-    ensures painted { Painted buffer.old (12 * p.before) none
-        (run
-        (colour_in p (through p.control p.position table.now store.now colours.now memory.now))
-        0 (4 * p.visible))
+pub fn draw_rows(buffer: &mut [u8], p: SizedPlan, brush: Brush) -> Sums
+    requires fits { 12 * (p.plan.before + p.plan.visible) ≤ length buffer.old }
+    ensures painted { Painted buffer.old (12 * p.plan.before) none
+        (run (colour_in p.plan (through_by brush.entry)) 0 (4 * p.plan.visible))
         buffer.new result }
 {
-    let control = p.control;
-    let position = p.position;
+    let plan = p.plan;
     let mut t = Sums::none();
     let mut v: u64 = 0;
-    while v < p.visible {
+    // As it is: as in `is_beyond`.
+    while v < plan.visible {
         let s = segment_at(p, v);
-        t = span::draw_stretch(
-            buffer, memory, s, control, position, table, store, colours, t,
-        );
+        t = span::draw_stretch(buffer, s, brush, t);
         v += s.count / 4;
     }
     t

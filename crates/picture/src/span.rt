@@ -1,7 +1,7 @@
 // A stretch of pixels drawn (01, "Rows and pixels"): bytes into the buffer, the cursor over a segment, the checksums beside.
-ghost use Rattle.std.specs.Prelude.{◌≡◌, [], ◌∷◌, ◌+◌, ◌-◌, ◌*◌, ◌≤◌, length};
+ghost use Rattle.std.specs.Prelude.{◌≡◌, ℕ, [], ◌∷◌, ◌+◌, ◌-◌, ◌*◌, ◌<◌, ◌≤◌, length};
 ghost use Rattle.base.specs.Count.{run};
-ghost use Rattle.picture.specs.Span.{Painted, through, plain_colour, uncovered_colour, covered_colour, Covered, Part};
+ghost use Rattle.picture.specs.Span.{Painted, through_by, plain_colour, colour_through, Covered, Part};
 ghost use Rattle.picture.specs.Stretch.{Small};
 
 use crate::stretch;
@@ -9,7 +9,39 @@ use crate::stretch::Stretch;
 use base::channels;
 use pixel::Sums;
 
+// What pixels are drawn by: the control, the cursor's position, the masked palette, the cursor's store and its colours, and the memory.
+#[derive(Clone, Copy)]
+pub struct Brush<'a> {
+    pub control: u32,
+    pub position: u32,
+    pub table: &'a [u32; 256],
+    pub store: &'a [u16; 512],
+    pub colours: &'a [u32; 3],
+    pub memory: &'a [u8],
+}
+
+impl Brush<'_> {
+    // The colour of a place, without the cursor.
+    fn plain(self, place: u64) -> u32
+        ensures colour { result ≡ plain_colour self.entry.control self.entry.table.now self.entry.memory.now place }
+    {
+        let pixel = memory::pixel_shown(self.control, self.memory, place) as usize;
+        self.table[pixel]
+    }
+
+    // The colour of pixel x of line y, which stands at a place, with the cursor.
+    #[tactic(auto, unfolding(crate::specs::Span::colour_through))]
+    fn covered(self, place: u64, x: u32, y: u32) -> u32
+        ensures colour { result ≡ colour_through (through_by self.entry) place x y }
+    {
+        let on = control::is_cursor_on(self.control);
+        let code = base::choose(on, cursor::cursor_code(self.store, self.position, x, y), 0);
+        cursor::cover(self.colours, code, self.plain(place))
+    }
+}
+
 // One pixel put from k on: red, green and blue stored, its colour added.
+#[tactic(auto, unfolding(crate::specs::Span::bytes_of, pixel::specs::Sums::summed))]
 fn put(buffer: &mut [u8], k: usize, colour: u32, sums: Sums) -> Sums
     requires { k + 3 ≤ length buffer.old }
     ensures painted { Painted buffer.old k sums (colour ∷ []) buffer.new result }
@@ -23,100 +55,39 @@ fn put(buffer: &mut [u8], k: usize, colour: u32, sums: Sums) -> Sums
     sums.added(colour)
 }
 
-// The colour of a place, without the cursor.
-fn look(memory: &[u8], place: u64, control: u32, table: &[u32; 256]) -> u32
-    ensures colour { result ≡ plain_colour control table.now memory.now place }
-{
-    let pixel = memory::pixel_shown(control, memory, place) as usize;
-    table[pixel]
-}
-
-// The pixels of a stretch from number `first` up to, not including, `end`, which the cursor leaves alone.
-fn draw_plain(
+// The pixels of a stretch from number `first` up to, not including, `end`, each of its colour.
+fn paint<F: Fn(u64) -> u32>(
     buffer: &mut [u8],
-    memory: &[u8],
     s: Stretch,
     first: u64,
     end: u64,
-    control: u32,
-    table: &[u32; 256],
+    colour: F,
     sums: Sums,
 ) -> Sums
-    requires { Part s first end (length buffer.old) }
-    ensures painted { Painted buffer.old (s.at + 3 * first) sums
-        (run (uncovered_colour control table.now memory.now s.from) first (end - first))
-        buffer.new result }
+    requires part { Part s first end (length buffer.old) }
+    requires coloured { (i : ℕ) → first ≤ i → i < end → F.pre colour i }
+    ensures painted { (f : ℕ → ℕ) → ((i : ℕ) (c : ℕ) → first ≤ i → i < end → F.post colour i c → c ≡ f i) →
+        Painted buffer.old (s.at + 3 * first) sums (run f first (end - first)) buffer.new result }
 {
-    let from = s.from;
     let mut t = sums;
-    let mut i = first;
+    // As it is: k goes up by 3 beside i, for a processor with no multiply (docs/HANDBOOK.md, 13); a part cut into threes first is no plainer.
     let mut k = s.at + 3 * first as usize;
-    while i < end {
-        t = put(buffer, k, look(memory, from + i, control, table), t);
-        i += 1;
-        k += 3;
-    }
-    t
-}
-
-// Those that may lie under the cursor.
-fn draw_under(
-    buffer: &mut [u8],
-    memory: &[u8],
-    s: Stretch,
-    first: u64,
-    end: u64,
-    control: u32,
-    position: u32,
-    table: &[u32; 256],
-    store: &[u16; 512],
-    colours: &[u32; 3],
-    sums: Sums,
-) -> Sums
-    requires { Part s first end (length buffer.old) }
-    ensures painted { Painted buffer.old (s.at + 3 * first) sums
-        (run
-        (covered_colour (through control position table.now store.now colours.now memory.now) s)
-        first (end - first))
-        buffer.new result }
-{
-    let from = s.from;
-    let x = s.x;
-    let y = s.y;
-    let on = control::is_cursor_on(control);
-    let mut t = sums;
-    let mut i = first;
-    let mut k = s.at + 3 * first as usize;
-    while i < end {
-        let code = base::first(on, cursor::cursor_code(store, position, x + i as u32, y), 0);
-        let colour = cursor::cover(colours, code, look(memory, from + i, control, table));
-        t = put(buffer, k, colour, t);
-        i += 1;
+    for i in first..end {
+        t = put(buffer, k, colour(i), t);
         k += 3;
     }
     t
 }
 
 // A stretch: what is left of the cursor, what is under it and what is right of it.
-pub fn draw_stretch(
-    buffer: &mut [u8],
-    memory: &[u8],
-    s: Stretch,
-    control: u32,
-    position: u32,
-    table: &[u32; 256],
-    store: &[u16; 512],
-    colours: &[u32; 3],
-    sums: Sums,
-) -> Sums
+pub fn draw_stretch(buffer: &mut [u8], s: Stretch, brush: Brush, sums: Sums) -> Sums
     requires { Small s (length buffer.old) }
-    ensures painted { Covered (through control position table.now store.now colours.now memory.now)
-        s buffer.old sums buffer.new result }
+    ensures painted { Covered (through_by brush.entry) s buffer.old sums buffer.new result }
 {
-    let c = stretch::clip(control, position, s);
-    let a = draw_plain(buffer, memory, s, 0, c.left, control, table, sums);
-    let b = draw_under(
-        buffer, memory, s, c.left, c.right, control, position, table, store, colours, a,
-    );
-    draw_plain(buffer, memory, s, c.right, s.count, control, table, b)
+    let c = stretch::clip(brush.control, brush.position, s);
+    let plain = move |i: u64| brush.plain(s.from + i);
+    let covered = move |i: u64| brush.covered(s.from + i, s.x + i as u32, s.y);
+    let a = paint(buffer, s, 0, c.left, plain, sums);
+    let b = paint(buffer, s, c.left, c.right, covered, a);
+    paint(buffer, s, c.right, s.count, plain, b)
 }

@@ -1,3 +1,2 @@
--- Laws that callers of `pixel` use, and laws of its own proofs.
+-- Laws that callers of `pixel` use.
 pub mod Laws
-pub mod Cases

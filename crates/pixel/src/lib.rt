@@ -2,17 +2,17 @@
 #![tactic(auto)]
 
 ghost use Rattle.std.specs.Prelude.{◌≡◌, cond, ◌<◌};
-ghost use Rattle.registers.specs.File.{file_of};
+ghost use Rattle.registers.specs.File.{file_with};
 ghost use Rattle.pixel.specs.Dot.{coloured, dot_below, dot_at};
 ghost use Rattle.base.specs.Channels.{red, green, blue, joined};
 ghost use Rattle.pixel.specs.Sums.{none, added, summed, cleared_at, summed_where};
 
 use base::channels;
-use registers::Numbers;
+use registers::{Numbers, Tables};
 use signals::Dot;
 
 // The three 24-bit sums of colour bytes.
-#[derive(Clone, Copy)]
+#[derive(Clone, Copy, PartialEq, Eq)]
 pub struct Sums {
     pub red: u32,
     pub green: u32,
@@ -45,30 +45,17 @@ fn dot_below(n: Numbers, palette: &[u32; 256], memory: &[u8], place: u64) -> Dot
 }
 
 // A pixel at its spot, under a cursor at a position.
-pub fn dot_at(
-    n: Numbers,
-    position: u32,
-    colours: &[u32; 3],
-    palette: &[u32; 256],
-    store: &[u16; 512],
-    memory: &[u8],
-    at: Spot,
-) -> Dot
-    ensures dot { result ≡ dot_at (file_of n colours.now palette.now store.now)
-        position memory.now at.place at.x at.y }
+#[tactic(auto, unfolding(crate::specs::Dot::dot_at))]
+pub fn dot_at(n: Numbers, position: u32, tables: Tables, memory: &[u8], at: Spot) -> Dot
+    ensures dot { result ≡ dot_at (file_with n tables.entry) position memory.now at.place at.x at.y }
 {
-    let below = dot_below(n, palette, memory, at.place);
+    let below = dot_below(n, tables.palette, memory, at.place);
     let on = control::is_cursor_on(n.control);
-    let code = base::first(on, cursor::cursor_code(store, position, at.x, at.y), 0);
+    let under = cursor::cursor_code(tables.store, position, at.x, at.y);
+    let code = base::choose(on, under, 0);
     Dot {
-        colour: cursor::cover(colours, code, below.colour),
+        colour: cursor::cover(tables.colours, code, below.colour),
     }
-}
-
-fn chosen(test: bool, sums: Sums, other: Sums) -> Sums
-    ensures chosen { result ≡ cond test sums other }
-{
-    if test { sums } else { other }
 }
 
 // A colour with no green: its red and blue stand 16 bits apart, so that those of four colours are added at once.
@@ -117,10 +104,7 @@ impl Sums {
     fn with_four(self, four: [u32; 4]) -> Sums
         ensures sums { result ≡ summed self four }
     {
-        let a = four[0];
-        let b = four[1];
-        let c = four[2];
-        let d = four[3];
+        let [a, b, c, d] = four;
         let both = red_and_blue(a) + red_and_blue(b) + red_and_blue(c) + red_and_blue(d);
         let green = green_alone(a) + green_alone(b) + green_alone(c) + green_alone(d);
         Sums {
@@ -134,7 +118,7 @@ impl Sums {
     pub fn tallied(self, opens: bool, shows: bool, four: [u32; 4]) -> Sums
         ensures sums { result ≡ summed_where shows (cleared_at opens self) four }
     {
-        let before = chosen(opens, Sums::none(), self);
+        let before = base::choose(opens, Sums::none(), self);
         if shows {
             return before.with_four(four);
         }

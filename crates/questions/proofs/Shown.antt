@@ -1,23 +1,22 @@
 -- What is shown, case by case, and line by line. Assumes nothing.
-use Prim.Native.Nat.{ℕ, suc, ◌+◌, ◌-◌, ◌/◌, ◌≤◌, ◌<◌}
-use mathlib.Core.Bool.{Bool, true, false}
-use mathlib.Core.List.{List, ◌∷◌}
-use mathlib.Core.Path.{◌≡◌, refl, ap, sym, ◌∙◌}
+use Prim.Native.Nat.{ℕ, suc, ◌+◌, ◌-◌, ◌/◌, ◌<◌, min}
+use mathlib.Core.Bool.{true, false}
+use mathlib.Core.List.{List, ◌∷◌, ◌++◌}
+use mathlib.Core.Path.{◌≡◌, ap, sym, ◌∙◌}
 use native.Mathlib.Omega.{arith}
-use borrow.Author.Tests.{ltb-true, ltb-false, eq-eqb, ne_eqb}
-use lib.Dec.{ltb}
-use lib.ListN.{length, take, drop, length-drop, drop_of_length-le}
-use lib.Seq.{take_all, drop-drop}
+use borrow.Author.Tests.{eq-eqb, ne_eqb}
+use lib.ListN.{length, take, drop, length-drop}
+use Rattle.std.proofs.Math.Seq.{take-append_seam, drop-append_seam}
+use Rattle.std.proofs.lemmas.List.{take_min, drop_min}
 use Rattle.room.specs.Room.{put_texts, put_ends}
 use Rattle.text.specs.Rows.{row_texts}
 use Rattle.machine.specs.declared.Machine.{Machine}
 use Rattle.script.specs.declared.command.Command.{Command}
 use Rattle.paperwork.specs.Store.{stored_of}
-use Rattle.paperwork.specs.declared.store.Stored.{Stored}
 use Rattle.report.specs.Pages.{turned, spaced}
 use Rattle.report.specs.declared.Page.{Page}
 use Rattle.questions.specs.Questions.{find_refusal, find_texts}
-use Rattle.questions.specs.Answers.{Shown, shown_texts, is_brief, verdict_shown, rows_of, lines_of, lines_shown, rows_shown, bytes_shown, found_shown, answer_shown}
+use Rattle.questions.specs.Answers.{shown_texts, is_brief, verdict_shown, rows_of, lines_of, lines_shown, rows_shown, bytes_shown, found_shown, answer_shown}
 
 -- ---- rows
 
@@ -38,27 +37,16 @@ rows_next : (p : Page) (room left : List ℕ) → 0 < length left → rows_shown
 unfolding rows_shown lines_shown
 rows_next p room left h = ap (lines_shown (record { page = p; bytes = room })) (lines_next left h)
 
-module _ (bytes : List ℕ) (from next : ℕ) where
-  next_left : from ≤ length bytes → next ≤ length bytes → length bytes - next ≡ length bytes - from - 32 → drop next bytes ≡ drop 32 (drop from bytes)
-  next_left a b e = go (ltb (length bytes) (from + 32)) refl ∙ sym (drop-drop 32 from bytes)
-    where
-      go : (t : Bool) → ltb (length bytes) (from + 32) ≡ t → drop next bytes ≡ drop (from + 32) bytes
-      go true h =
-          let short = ltb-true (length bytes) (from + 32) h in
-          drop_of_length-le bytes {i = next} (omega (arith, short)) ∙ sym (drop_of_length-le bytes {i = from + 32} (omega (arith, short)))
-      go false h =
-          let k : next ≡ from + 32 = omega (arith, ltb-false (length bytes) (from + 32) h) in
-          ap (λ i. drop i bytes) k
+-- one turn puts one line of what is left, and at the end none is
+module _ (page : Page) (room left : List ℕ) where
+  pub rows_again : (row rest : List ℕ) → left ≡ row ++ rest → length row ≡ min 32 (length left) → 0 < length left → (roomy turn : Page) (after : List ℕ) (end : ℕ) → roomy ≡ turned page (spaced page) → end ≡ put_ends room roomy.waiting (row_texts row) → after ≡ put_texts room roomy.waiting (row_texts row) → turn ≡ turned roomy end → rows_shown turn after rest ≡ rows_shown page room left
+  rows_again row rest parts size some roomy turn after end s e f t =
+      let first : take 32 left ≡ row = sym (take_min 32 left) ∙ rw (← size, parts) (take-append_seam row rest) in
+      let others : drop 32 left ≡ rest = sym (drop_min 32 left) ∙ rw (← size, parts) (drop-append_seam row rest) in
+      rw (t, e, f, s, ← first, ← others) (sym (rows_next page room left some))
 
-  -- one turn puts one line
-  pub rows_again : (page roomy turn : Page) (room row after : List ℕ) (end : ℕ) → from < length bytes → roomy ≡ turned page (spaced page) → row ≡ take 32 (take (length bytes - from) (drop from bytes)) → end ≡ put_ends room roomy.waiting (row_texts row) → after ≡ put_texts room roomy.waiting (row_texts row) → turn ≡ turned roomy end → next ≤ length bytes → length bytes - next ≡ length bytes - from - 32 → rows_shown turn after (drop next bytes) ≡ rows_shown page room (drop from bytes)
-  rows_again page roomy turn room row after end h s l e f t b k =
-      let all : take (length bytes - from) (drop from bytes) ≡ drop from bytes = take_all (length bytes - from) (drop from bytes) (omega (arith, length-drop from bytes)) in
-      let some : 0 < length (drop from bytes) = rw length-drop (omega arith) in
-      rw (next_left (omega arith) b k, t, e, f, l, all, s) (sym (rows_next page room (drop from bytes) some))
-
-pub rows_all : (bytes : List ℕ) (from : ℕ) (page : Page) (room : List ℕ) → length bytes ≤ from → rows_shown page room (drop from bytes) ≡ record { page = page; bytes = room }
-rows_all bytes from page room h = rows_none page room (drop from bytes) (rw length-drop (omega arith))
+  pub rows_all : length left ≡ 0 → rows_shown page room left ≡ record { page = page; bytes = room }
+  rows_all h = rows_none page room left h
 
 -- ---- bytes that were asked for
 
@@ -70,9 +58,6 @@ module _ (p : Page) (room : List ℕ) (refusal : ℕ) (bytes : List ℕ) where
   pub bytes_long : (page : Page) (between : List ℕ) → page ≡ (verdict_shown p room refusal).page → between ≡ (verdict_shown p room refusal).bytes → is_brief p refusal ≡ false → bytes_shown p room refusal bytes ≡ rows_shown page between bytes
   unfolding bytes_shown
   bytes_long page between e f h = rw (h, e, f)
-
-pub store_shown : (p : Page) (room : List ℕ) (c : Command) (s : Stored) (row : List ℕ) → s ≡ stored_of c → row ≡ take s.room s.bytes → bytes_shown p room (stored_of c).refusal (take (stored_of c).room (stored_of c).bytes) ≡ bytes_shown p room s.refusal row
-store_shown p room c s row e f = rw (f, e)
 
 -- ---- answers
 

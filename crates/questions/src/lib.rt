@@ -19,6 +19,7 @@ use std::io::Write;
 use text::rows;
 
 // What a command has found: its refusal or 0, and the place past its answer. Where only a verdict is due, that is put over it.
+// As it is: the refusal is document 01's number, and the answer stands beside it, since a verdict is put over what a refused one has put.
 #[derive(Clone, Copy)]
 struct Finding {
     refusal: u32,
@@ -38,13 +39,10 @@ fn rows<W: Write>(p: Page, out: &mut [u8], said: &mut W, bytes: &[u8]) -> Page
     ensures bytes { out.new ≡ (rows_shown p out.old bytes.now).bytes }
 {
     let mut page = p;
-    let mut from: usize = 0;
-    while from < bytes.len() {
+    for row in bytes.chunks(32) {
         page = report::space(page, out, said);
-        let left = &bytes[from..];
-        let end = rows::put_row(out, page.waiting, room::lent(left, 32));
+        let end = rows::put_row(out, page.waiting, row);
         page = report::turn(page, end);
-        from = room::later(from, 32, bytes.len());
     }
     page
 }
@@ -167,19 +165,13 @@ fn find(at: usize, c: Command, m: Machine, out: &mut [u8]) -> Finding
 {
     let left = c.left;
     let values = left.values;
-    if c.name == names::READ {
-        return read(at, m, out, values[0]);
+    match c.name {
+        names::READ => read(at, m, out, values[0]),
+        names::NINE => nine(at, m, out),
+        names::SHEET => sheet(at, c, out),
+        names::FIELD => field(at, c, out),
+        _ => compare(at, c, out),
     }
-    if c.name == names::NINE {
-        return nine(at, m, out);
-    }
-    if c.name == names::SHEET {
-        return sheet(at, c, out);
-    }
-    if c.name == names::FIELD {
-        return field(at, c, out);
-    }
-    compare(at, c, out)
 }
 
 // A command that only asks.

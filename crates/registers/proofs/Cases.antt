@@ -1,25 +1,15 @@
 -- What the laws and the functions' proofs rest on: how a store changes the rows. Assumes nothing.
 use Prim.Native.Nat.{ℕ, zero, suc, ◌%◌, ◌^◌, ◌≤◌}
-use mathlib.Core.Path.{◌≡◌, refl, sym}
+use mathlib.Core.Path.{◌≡◌, refl}
 use mathlib.Core.Bool.{Bool, true, false, cond}
 use mathlib.Core.List.{List, [], ◌∷◌}
 use native.Mathlib.Omega.{arith}
-use lib.ListN.{length, get_or, set, replicate, get_or-eq_default}
-use lib.Seq.{set_out, set-get_or}
+use lib.ListN.{get_or, set, replicate}
 use Rattle.registers.specs.declared.map.Place.{Place}
 use Rattle.registers.specs.declared.map.Place.TheVariants.{Reserved, Parameter, Mask, Control, Top, Colour, Checksum, Position, Palette, Store}
 use Rattle.registers.specs.declared.Registers.{Registers}
 use Rattle.registers.specs.Map.{row_of, number_in_row}
-use Rattle.registers.specs.File.{rows, row_in, value_in, kept_at, store_in}
-
--- a number past the end of its row: nothing stands there, and nothing is stored
-pub value_past : (r : Registers) (p q : Place) {n : ℕ} → p ≡ q → length (row_in r q) ≡ n → n ≤ number_in_row q → 0 ≡ value_in r p
-unfolding value_in
-value_past r p q e l h = rw e (sym (get_or-eq_default (row_in r q) 0 (omega arith)))
-
-pub stored_past : (r : Registers) (p : Place) (v : ℕ) {n : ℕ} → length (row_in r p) ≡ n → n ≤ number_in_row p → r ≡ store_in r p v
-unfolding store_in
-stored_past r p v l h = rw (set_out (row_in r p) (number_in_row p) (kept_at p v) (omega arith), set-get_or (rows r) (row_of p) [])
+use Rattle.registers.specs.File.{rows, row_in, kept_at, store_in}
 
 -- lists: one number of one row set, a bound on what is set, and zeros
 pub set_row : (l : List (List ℕ)) (i k v : ℕ) → get_or (set l i (set (get_or l i []) k v)) i [] ≡ set (get_or l i []) k v

@@ -3,6 +3,7 @@ use Rattle.std.specs.Prelude.{ℕ, ◌%◌, ◌^◌, ◌≤◌, ◌≡◌, cond,
 use Rattle.registers.specs.declared.map.Place.{Place}
 use Rattle.registers.specs.declared.Registers.{Registers}
 use Rattle.registers.specs.declared.Numbers.{Numbers}
+use Rattle.registers.specs.declared.Tables.{Tables}
 use Rattle.registers.specs.Map.{row_of, number_in_row, is_store}
 
 -- all registers begin at 0
@@ -39,6 +40,13 @@ file_of n colours palette store =
 
 abbrev pub bare : Numbers → Registers
 bare n = file_of n [] [] []
+
+-- the same of tables that are lent; and tables that a file lends
+abbrev pub file_with : Numbers → Tables → Registers
+file_with n t = file_of n t.colours.now t.palette.now t.store.now
+
+abbrev pub Lends : Registers → Tables → Type 0
+Lends r t = (t.colours.now ≡ r.colours) × (t.palette.now ≡ r.palette) × (t.store.now ≡ r.store)
 
 -- the file as the rows of the map; a checksum does not stand in it
 abbrev pub rows : Registers → List (List ℕ)

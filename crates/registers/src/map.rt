@@ -1,11 +1,9 @@
 // The register map (01, "Register map"): what stands at each word address, and the rules of each place.
 ghost use Rattle.std.specs.Prelude.{◌≡◌, cond, ◌&&◌, leb, drop};
-ghost use Rattle.registers.specs.Map.{register_map, place_among, place_of, row_of, number_in_row, is_parameter, is_control, is_checksum, is_reserved, widest};
-
-use base::less;
+ghost use Rattle.registers.specs.Map.{register_map, place_among, place_of, number_in_row, is_parameter, is_control, is_checksum, is_reserved, widest};
 
 // What stands at an address, with its number in its row of the map.
-#[derive(Clone, Copy)]
+#[derive(Clone, Copy, PartialEq, Eq)]
 pub enum Place {
     Reserved,
     Parameter(u32),
@@ -23,11 +21,7 @@ pub enum Place {
 fn row(a: u32, first: u32, last: u32, place: Place, later: Place) -> Place
     ensures chosen { result ≡ cond (leb first a && leb a last) place later }
 {
-    if (first <= a) & (a <= last) {
-        place
-    } else {
-        later
-    }
+    base::choose((first <= a) & (a <= last), place, later)
 }
 
 // What stands at a word address from #0A1 on.
@@ -35,11 +29,29 @@ fn high_place_of(a: u32) -> Place
     ensures place { result ≡ place_among (drop 4 register_map) a }
 {
     let none = Place::Reserved;
-    let store = row(a, 0x200, 0x3FF, Place::Store(less(a, 0x200)), none);
-    let palette = row(a, 0x100, 0x1FF, Place::Palette(less(a, 0x100)), store);
+    let store = row(a, 0x200, 0x3FF, Place::Store(a.saturating_sub(0x200)), none);
+    let palette = row(
+        a,
+        0x100,
+        0x1FF,
+        Place::Palette(a.saturating_sub(0x100)),
+        store,
+    );
     let position = row(a, 0x0C7, 0x0C7, Place::Position, palette);
-    let checksum = row(a, 0x0C0, 0x0C2, Place::Checksum(less(a, 0x0C0)), position);
-    row(a, 0x0A1, 0x0A3, Place::Colour(less(a, 0x0A1)), checksum)
+    let checksum = row(
+        a,
+        0x0C0,
+        0x0C2,
+        Place::Checksum(a.saturating_sub(0x0C0)),
+        position,
+    );
+    row(
+        a,
+        0x0A1,
+        0x0A3,
+        Place::Colour(a.saturating_sub(0x0A1)),
+        checksum,
+    )
 }
 
 // What stands at a word address.
@@ -49,25 +61,13 @@ pub fn place_of(a: u32) -> Place
     let top = row(a, 0x080, 0x080, Place::Top, high_place_of(a));
     let control = row(a, 0x060, 0x060, Place::Control, top);
     let mask = row(a, 0x040, 0x040, Place::Mask, control);
-    row(a, 0x021, 0x02E, Place::Parameter(less(a, 0x021)), mask)
-}
-
-// The row of the map that has a place, from 0; 9 is none.
-fn row_of(p: Place) -> u32
-    ensures row { result ≡ row_of p }
-{
-    match p {
-        Place::Parameter(_) => 0,
-        Place::Mask => 1,
-        Place::Control => 2,
-        Place::Top => 3,
-        Place::Colour(_) => 4,
-        Place::Checksum(_) => 5,
-        Place::Position => 6,
-        Place::Palette(_) => 7,
-        Place::Store(_) => 8,
-        Place::Reserved => 9,
-    }
+    row(
+        a,
+        0x021,
+        0x02E,
+        Place::Parameter(a.saturating_sub(0x021)),
+        mask,
+    )
 }
 
 // A place's number in its row of the map.
@@ -75,16 +75,12 @@ pub fn number_in_row(p: Place) -> u32
     ensures number { result ≡ number_in_row p }
 {
     match p {
-        Place::Parameter(k) => k,
-        Place::Mask => 0,
-        Place::Control => 0,
-        Place::Top => 0,
-        Place::Colour(k) => k,
-        Place::Checksum(k) => k,
-        Place::Position => 0,
-        Place::Palette(k) => k,
-        Place::Store(k) => k,
-        Place::Reserved => 0,
+        Place::Parameter(k)
+        | Place::Colour(k)
+        | Place::Checksum(k)
+        | Place::Palette(k)
+        | Place::Store(k) => k,
+        Place::Mask | Place::Control | Place::Top | Place::Position | Place::Reserved => 0,
     }
 }
 
@@ -92,33 +88,33 @@ pub fn number_in_row(p: Place) -> u32
 pub fn is_parameter(p: Place) -> bool
     ensures rule { result ≡ is_parameter p }
 {
-    row_of(p) == 0
+    matches!(p, Place::Parameter(_))
 }
 
 // #060.
 pub fn is_control(p: Place) -> bool
     ensures rule { result ≡ is_control p }
 {
-    row_of(p) == 2
+    p == Place::Control
 }
 
 // #0C0 to #0C2, read only.
 pub fn is_checksum(p: Place) -> bool
     ensures rule { result ≡ is_checksum p }
 {
-    row_of(p) == 5
+    matches!(p, Place::Checksum(_))
 }
 
 // All that the map does not have.
 pub fn is_reserved(p: Place) -> bool
     ensures rule { result ≡ is_reserved p }
 {
-    row_of(p) == 9
+    p == Place::Reserved
 }
 
 // The largest value that a place holds.
 pub fn widest(p: Place) -> u32
     ensures value { result ≡ widest p }
 {
-    base::first(row_of(p) == 8, 0xFFFF, 0xFFFFFF)
+    base::choose(matches!(p, Place::Store(_)), 0xFFFF, 0xFFFFFF)
 }

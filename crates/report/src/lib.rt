@@ -17,6 +17,7 @@ use std::io::Write;
 // before one, and the pixels of a line's first half where it is interlaced.
 #[derive(Clone, Copy)]
 pub struct Page {
+    // As it is: a number. `blank_page`, `session::session` and each function of a `Page` take any, and an enum would take three.
     pub form: u32,
     pub lines: u64,
     pub waiting: usize,
@@ -57,20 +58,15 @@ pub fn turn(p: Page, waiting: usize) -> Page
 fn count(p: Page, waiting: usize, s: Signals) -> Page
     ensures page { result ≡ counted p waiting s }
 {
-    let ticks = input::one_more(p.ticks);
-    Page {
-        form: p.form,
-        lines: p.lines,
-        waiting,
-        ticks,
-        last: s,
-        width: p.width,
-        height: p.height,
-        half: p.half,
-    }
+    let mut next = p;
+    next.waiting = waiting;
+    next.ticks = input::one_more(p.ticks);
+    next.last = s;
+    next
 }
 
 // Writes what waits. A write that fails is not told of.
+// As it is: page, out and said go apart, here and above: two are lent at once, and of a struct that lends two of its fields no proof is made yet.
 pub fn write<W: Write>(p: Page, out: &[u8], said: &mut W) -> Page
     ensures page { result ≡ turned p 0 }
 {
@@ -98,6 +94,7 @@ pub fn next_line<W: Write>(p: Page, out: &[u8], said: &mut W) -> Page
 }
 
 // A refusal.
+// As it is: refusals and faults here are numbers, since `refuse`, `fault` and `verdict` take any; a refusal's is document 01's.
 pub fn refuse(p: Page, out: &mut [u8], refusal: u32) -> Page
     ensures page { result ≡ turned p (put_ends out.old p.waiting (refused_texts p.form p.lines refusal)) }
     ensures bytes { out.new ≡ put_texts out.old p.waiting (refused_texts p.form p.lines refusal) }
@@ -136,18 +133,20 @@ pub fn tick(p: Page, out: &mut [u8], s: Signals) -> Page
     ensures bytes { out.new ≡ put_texts out.old p.waiting (step_texts p s) }
 {
     let last = p.last;
-    if p.form == ANSWERS {
-        let end = ticks::put_tick(out, p.waiting, s);
-        return count(p, end, s);
+    match p.form {
+        ANSWERS => {
+            let end = ticks::put_tick(out, p.waiting, s);
+            count(p, end, s)
+        }
+        WAVE => {
+            let end = waveform::put_tick(out, p.waiting, p.ticks == 0, p.ticks, last, s);
+            count(p, end, s)
+        }
+        _ => count(p, p.waiting, s),
     }
-    if p.form == WAVE {
-        let end = waveform::put_tick(out, p.waiting, p.ticks == 0, p.ticks, last, s);
-        return count(p, end, s);
-    }
-    count(p, p.waiting, s)
 }
 
-// The forms: an answer to each command, a waveform of the ticks, the last picture.
+// The forms: an answer to each command, a waveform of the ticks, the last picture, which every number beyond stands for too.
 pub const ANSWERS: u32 = 0;
 
 pub const WAVE: u32 = 1;

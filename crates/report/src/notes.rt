@@ -12,10 +12,11 @@ fn put_open(room: &mut [u8], at: usize, form: u32) -> usize
     ensures place { result ≡ put_end room.old at (length (open_text form)) }
     ensures bytes { room.new ≡ put_text room.old at (open_text form) }
 {
-    if form == ANSWERS {
-        return put(room, at, b"error ");
+    match form {
+        ANSWERS => put(room, at, b"error "),
+        WAVE => put(room, at, b"$comment line "),
+        _ => put(room, at, b"line "),
     }
-    put_either(room, at, form == WAVE, b"$comment line ", b"line ")
 }
 
 // And how it ends.

@@ -34,20 +34,26 @@ pub fn put_colour(room: &mut [u8], at: usize, colour: u32) -> usize
     text::put_hex(room, parted, colour)
 }
 
-// Where the reason of each fault begins in their text, and where it ends; the last is that of every number beyond.
-const STARTS: [usize; 9] = [96, 0, 15, 28, 42, 54, 70, 87, 96];
+// A fault's reason, by its number (docs/SCRIPT.md); every number beyond has the last.
+fn reason(fault: u32) -> &'static [u8]
+    ensures text { result.now ≡ reason_text fault }
+{
+    match fault {
+        1 => b"unknown command",
+        2 => b"too few words",
+        3 => b"too many words",
+        4 => b"not a number",
+        5 => b"number too large",
+        6 => b"beyond the memory",
+        7 => b"too large",
+        _ => b"too long",
+    }
+}
 
-const ENDS: [usize; 9] = [104, 15, 28, 42, 54, 70, 87, 96, 104];
-
-// A fault's reason.
+// A fault's reason, put.
 pub fn put_reason(room: &mut [u8], at: usize, fault: u32) -> usize
     ensures place { result ≡ put_end room.old at (length (reason_text fault)) }
     ensures bytes { room.new ≡ put_text room.old at (reason_text fault) }
 {
-    let text: &[u8] = b"unknown commandtoo few wordstoo many wordsnot a number\
-        number too largebeyond the memorytoo largetoo long";
-    let k = base::first(fault < 8, fault, 8) as usize;
-    let start = STARTS[k];
-    let end = ENDS[k];
-    put(room, at, &text[start..end])
+    put(room, at, reason(fault))
 }

@@ -13,7 +13,7 @@ pub fn is_asking(on: bool, meminit: u64, rest: u64) -> bool
 
 // What is known of a tick. Row transfers are on, the tick is visible; what a visible tick asks, and whether this one leads, before the field's
 // first visible one; the field's visible ticks so far, and all of them; what the last visible tick asked.
-#[derive(Clone, Copy)]
+#[derive(Clone, Copy, PartialEq, Eq)]
 pub struct Known {
     pub on: bool,
     pub visible: bool,
@@ -28,7 +28,6 @@ pub struct Known {
 pub fn is_requested(k: Known) -> bool
     ensures test { result ≡ requested k }
 {
-    let on = k.on;
-    let kept = base::level(k.seen == 0, k.leads, (k.seen < k.all) & k.asked);
-    on & base::level(k.visible, k.asks, kept)
+    let kept = base::choose(k.seen == 0, k.leads, (k.seen < k.all) & k.asked);
+    k.on & base::choose(k.visible, k.asks, kept)
 }

@@ -1,3 +1,2 @@
--- Laws of a memory that is filled, and of bytes given as numbers.
-mod Filling
+-- Laws of bytes given as numbers.
 pub mod Laws

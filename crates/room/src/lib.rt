@@ -7,6 +7,8 @@ ghost use Rattle.std.specs.Prelude.{◌≡◌, cond, length, take, ◌-◌, ◌�
 ghost use Rattle.room.specs.Room.{put_text, put_end, KeptRoom};
 
 // A text put into a room at a place, and the place past it. Where it does not fit nothing is put.
+// As it is: room and place apart, here and above: a struct of both would lend two of its fields at once, of which no proof is made yet.
+#[tactic(auto, unfolding(crate::specs::Room::put_text, crate::specs::Room::put_end), using(crate::proofs::Laying::laid_over))]
 pub fn put(room: &mut [u8], at: usize, text: &[u8]) -> usize
     ensures place { result ≡ put_end room.old at (length text.now) }
     ensures bytes { room.new ≡ put_text room.old at text.now }
@@ -20,11 +22,7 @@ pub fn put(room: &mut [u8], at: usize, text: &[u8]) -> usize
     if end - at < count {
         return at;
     }
-    let mut i: usize = 0;
-    while i < count {
-        room[at + i] = text[i];
-        i += 1;
-    }
+    room[at..at + count].copy_from_slice(text);
     at + count
 }
 
@@ -43,10 +41,7 @@ pub fn put_either(room: &mut [u8], at: usize, test: bool, one: &[u8], other: &[u
 pub fn lent(bytes: &[u8], count: usize) -> &[u8]
     ensures bytes { result.now ≡ take count bytes.now }
 {
-    if count <= bytes.len() {
-        return &bytes[..count];
-    }
-    &bytes[..]
+    &bytes[..count.min(bytes.len())]
 }
 
 // A place so many bytes on, and never past the end.
@@ -54,11 +49,5 @@ pub fn later(at: usize, count: usize, end: usize) -> usize
     ensures within { result ≤ end }
     ensures left { end - result ≡ end - at - count }
 {
-    if end <= at {
-        return end;
-    }
-    if end - at <= count {
-        return end;
-    }
-    at + count
+    at.saturating_add(count).min(end)
 }

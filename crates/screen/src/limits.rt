@@ -2,7 +2,7 @@
 ghost use Rattle.std.specs.Prelude.{◌≡◌};
 ghost use Rattle.screen.specs.Limits.{refuses11, refuses12, refuses13, refuses14, refuses15, refuses16, refuses17, refuses18, later_limit, limit_of, Bounded};
 
-use crate::range;
+use crate::{conversions, range};
 use units::Screen;
 
 fn refuses_11(s: Screen) -> bool
@@ -55,40 +55,46 @@ fn refuses_18(s: Screen) -> bool
     requires { Bounded 0xFFFFFF s }
     ensures refusal { result ≡ refuses18 s }
 {
-    let halves = s.vpreequalise.0 + s.vsync.0 + s.vpostequalise.0 + s.vblank.0 + s.vdisplay.0;
+    let halves = conversions::halves_in_field(s).0;
     s.interlaced & ((s.vdisplay.0 % 2 == 0) | (halves % 2 == 0))
 }
 
 // The lowest of 11 to 18 that holds, or 0.
+#[tactic(auto, unfolding(crate::specs::Limits::later_limit))]
 fn later_limit(control: u32, s: Screen) -> u32
     requires { Bounded 0xFFFFFF s }
     ensures refusal { result ≡ later_limit control s }
 {
-    let is_11 = refuses_11(s);
-    let is_12 = refuses_12(s);
-    let is_13 = refuses_13(s);
-    let is_14 = refuses_14(s);
-    let is_15 = refuses_15(control, s);
-    let is_16 = refuses_16(s);
-    let is_17 = refuses_17(s);
-    let is_18 = refuses_18(s);
-    let n18 = base::first(is_18, 18, 0);
-    let n17 = base::first(is_17, 17, n18);
-    let n16 = base::first(is_16, 16, n17);
-    let n15 = base::first(is_15, 15, n16);
-    let n14 = base::first(is_14, 14, n15);
-    let n13 = base::first(is_13, 13, n14);
-    let n12 = base::first(is_12, 12, n13);
-    base::first(is_11, 11, n12)
+    if refuses_11(s) {
+        11
+    } else if refuses_12(s) {
+        12
+    } else if refuses_13(s) {
+        13
+    } else if refuses_14(s) {
+        14
+    } else if refuses_15(control, s) {
+        15
+    } else if refuses_16(s) {
+        16
+    } else if refuses_17(s) {
+        17
+    } else if refuses_18(s) {
+        18
+    } else {
+        0
+    }
 }
 
 // The lowest of 10 to 18 that holds under a control value, or 0: for any numbers.
+// As it is: document 01's number, and 0 for none, which the definition limit_of and the theorems accepted and unrefused say.
+#[tactic(auto, unfolding(crate::specs::Limits::limit_of))]
 pub fn limit(control: u32, s: Screen) -> u32
     ensures refusal { result ≡ limit_of control s }
 {
-    let wrong = range::refuses_10(s);
-    if wrong {
-        return 10;
+    if range::refuses_10(s) {
+        10
+    } else {
+        later_limit(control, s)
     }
-    later_limit(control, s)
 }

@@ -16,17 +16,21 @@ fn is_out_of_range(n: u64) -> bool
 pub fn refuses_10(s: Screen) -> bool
     ensures refusal { result ≡ refuses10 s }
 {
-    is_out_of_range(s.halfsync.0)
-        | is_out_of_range(s.backporch.0)
-        | is_out_of_range(s.display.0)
-        | is_out_of_range(s.shortdisplay.0)
-        | is_out_of_range(s.broadpulse.0)
-        | is_out_of_range(s.vsync.0)
-        | is_out_of_range(s.vpreequalise.0)
-        | is_out_of_range(s.vpostequalise.0)
-        | is_out_of_range(s.vblank.0)
-        | is_out_of_range(s.vdisplay.0)
-        | is_out_of_range(s.linetime.0)
-        | is_out_of_range(s.meminit.0)
-        | is_out_of_range(s.transferdelay.0)
+    [
+        s.halfsync.0,
+        s.backporch.0,
+        s.display.0,
+        s.shortdisplay.0,
+        s.broadpulse.0,
+        s.vsync.0,
+        s.vpreequalise.0,
+        s.vpostequalise.0,
+        s.vblank.0,
+        s.vdisplay.0,
+        s.linetime.0,
+        s.meminit.0,
+        s.transferdelay.0,
+    ]
+    .iter()
+    .any(|n| is_out_of_range(*n))
 }

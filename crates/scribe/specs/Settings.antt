@@ -75,6 +75,10 @@ start interlaced = at 0x060 (cond interlaced 0x901003 0x900001)
 abbrev pub write_texts : ℕ → ℕ → List (List ℕ)
 write_texts address value = ascii "write " ∷ hex_text address ∷ ascii " " ∷ hex_text value ∷ line_end ∷ []
 
+-- the lines of rows, an address and its value each
+abbrev pub rows_texts : List (ℕ × ℕ) → List (List ℕ)
+rows_texts rows = texts_of (λ i. write_texts (get_or rows i (0, 0)).0 (get_or rows i (0, 0)).1) (length rows)
+
 -- a setting's line, the whole table's lines, and the write that starts the generator
 abbrev pub setting_texts : ℕ → List (List ℕ)
 setting_texts setting = write_texts (address_of setting) (value_of setting)

@@ -1,6 +1,8 @@
 -- The names of a script's commands (docs/SCRIPT.md), and what a command of each does. Assumes nothing.
-use Rattle.std.specs.Prelude.{ℕ, suc, cond, List, [], ◌∷◌, ltb, get_or}
+use Rattle.std.specs.Prelude.{ℕ, suc, cond, List, [], ◌∷◌, get_or}
 use Rattle.vault.specs.Compare.{match}
+use Rattle.script.specs.declared.names.Kind.{Kind}
+use Rattle.script.specs.declared.names.Kind.TheVariants.{WritesRegister, ChangesMemory, RunsTicks, DrawsPicture, OnlyAsks}
 
 -- the names, in docs/SCRIPT.md's order
 abbrev pub names : List (List ℕ)
@@ -29,39 +31,31 @@ name_from k (name ∷ later) word = cond (match word name) k (name_from (suc k) 
 abbrev pub name_of : List ℕ → ℕ
 name_of word = name_from 0 names word
 
--- what a command does
-abbrev pub writes_register : ℕ
-writes_register = 0
-
-abbrev pub changes_memory : ℕ
-changes_memory = 1
-
-abbrev pub runs_ticks : ℕ
-runs_ticks = 2
-
-abbrev pub draws_picture : ℕ
-draws_picture = 3
-
-abbrev pub only_asks : ℕ
-only_asks = 4
-
--- by name; what is no name only asks
-abbrev pub kinds : List ℕ
+-- by name, what a command does; what is no name only asks
+abbrev pub kinds : List Kind
 kinds =
-    writes_register ∷  -- write
-    only_asks ∷  -- read
-    changes_memory ∷  -- memory
-    changes_memory ∷  -- poke
-    changes_memory ∷  -- fill
-    runs_ticks ∷  -- tick
-    runs_ticks ∷  -- run
-    draws_picture ∷  -- picture
-    only_asks ∷  -- nine
-    only_asks ∷  -- sheet
-    only_asks ∷  -- field
-    only_asks ∷  -- store
-    only_asks ∷  -- compare
+    WritesRegister ∷  -- write
+    OnlyAsks ∷  -- read
+    ChangesMemory ∷  -- memory
+    ChangesMemory ∷  -- poke
+    ChangesMemory ∷  -- fill
+    RunsTicks ∷  -- tick
+    RunsTicks ∷  -- run
+    DrawsPicture ∷  -- picture
+    OnlyAsks ∷  -- nine
+    OnlyAsks ∷  -- sheet
+    OnlyAsks ∷  -- field
+    OnlyAsks ∷  -- store
+    OnlyAsks ∷  -- compare
     []
 
-abbrev pub kind_of : ℕ → ℕ
-kind_of name = cond (ltb name 13) (get_or kinds name 0) only_asks
+abbrev pub kind_of : ℕ → Kind
+kind_of name = get_or kinds name OnlyAsks
+
+-- by what it does, one of several
+abbrev pub by_kind : {A : Type 0} → Kind → A → A → A → A → A → A
+by_kind WritesRegister writes changes runs draws asks = writes
+by_kind ChangesMemory writes changes runs draws asks = changes
+by_kind RunsTicks writes changes runs draws asks = runs
+by_kind DrawsPicture writes changes runs draws asks = draws
+by_kind OnlyAsks writes changes runs draws asks = asks

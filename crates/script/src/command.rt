@@ -6,13 +6,8 @@ use crate::numbers::Numbers;
 use crate::{names, numbers};
 use words::slash;
 
-// By name: the largest size that it takes.
-const SIZES: [u32; 12] = [
-    0xFFFFFFFF, 0xFFFFFFFF, 1048576, 0xFFFFFFFF, 0xFFFFFFFF, 0xFFFFFFFF, 0xFFFFFFFF, 3145728,
-    0xFFFFFFFF, 0xFFFFFFFF, 0xFFFFFFFF, 80,
-];
-
 // A command: its name, a fault or 0, its numbers, and for `compare` those of the right side.
+// As it is: the fault stands beside the rest, since `line_command` says of a line at fault its name and numbers too; `report::fault` takes any.
 #[derive(Clone, Copy)]
 pub struct Command {
     pub name: u32,
@@ -25,13 +20,12 @@ pub struct Command {
 pub(crate) fn faulty(name: u32, fault: u32) -> Command
     ensures command { result ≡ Commands·faulty name fault }
 {
-    let left = numbers::no_numbers(0);
-    let right = numbers::no_numbers(0);
+    let none = numbers::no_numbers(0);
     Command {
         name,
         fault,
-        left,
-        right,
+        left: none,
+        right: none,
     }
 }
 
@@ -44,7 +38,7 @@ fn compare_of(rest: &[u8]) -> Command
         let past = slash + 1;
         let left = numbers::numbers_for(names::COMPARE, &rest[..slash]);
         let right = numbers::numbers_for(names::COMPARE, &rest[past..]);
-        let fault = base::first(left.fault == 0, right.fault, left.fault);
+        let fault = base::choose(left.fault == 0, right.fault, left.fault);
         return Command {
             name: names::COMPARE,
             fault,
@@ -60,13 +54,13 @@ fn rest_fault(name: u32, first: u32, second: u32, count: usize, memory: u32) -> 
     requires { (name < 12) × (count ≤ 81) }
     ensures fault { result ≡ rest_fault name first second count memory }
 {
-    let size = SIZES[name as usize];
+    let takes = numbers::takes_of(name);
     let poked = first as u64 + count as u64;
     let filled = first as u64 + second as u64;
     let lent = memory as u64;
     let beyond = ((name == names::POKE) & (lent + 1 < poked))
         | ((name == names::FILL) & (lent < filled));
-    base::first(size < first, 7, base::first(beyond, 6, 0))
+    base::choose(takes.size < first, 7, base::choose(beyond, 6, 0))
 }
 
 // Any other command: its numbers, then the rest.
@@ -77,7 +71,7 @@ fn plain_of(name: u32, rest: &[u8], memory: u32) -> Command
     let left = numbers::numbers_for(name, rest);
     let values = left.values;
     let later = rest_fault(name, values[0], values[1], left.count, memory);
-    let fault = base::first(left.fault == 0, later, left.fault);
+    let fault = base::choose(left.fault == 0, later, left.fault);
     Command {
         name,
         fault,
@@ -94,11 +88,9 @@ pub fn command_of(line: &[u8], memory: u32) -> Command
     let from = word.from;
     let to = word.to;
     let name = names::name_of(&line[from..to]);
-    if name == names::UNKNOWN {
-        return faulty(names::UNKNOWN, 1);
+    match name {
+        names::UNKNOWN => faulty(names::UNKNOWN, 1),
+        names::COMPARE => compare_of(&line[to..]),
+        _ => plain_of(name, &line[to..], memory),
     }
-    if name == names::COMPARE {
-        return compare_of(&line[to..]);
-    }
-    plain_of(name, &line[to..], memory)
 }

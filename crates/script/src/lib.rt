@@ -37,5 +37,5 @@ pub fn ticks_of(c: Command) -> u32
 {
     let left = c.left;
     let values = left.values;
-    base::first(left.count == 0, 1, values[0])
+    base::choose(left.count == 0, 1, values[0])
 }

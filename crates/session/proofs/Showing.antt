@@ -25,7 +25,10 @@ use Rattle.weave.specs.declared.Weave.{Weave}
 use Rattle.weave.specs.Weave.{row_put}
 use Rattle.calls.specs.Calls.{size_of}
 use Rattle.calls.specs.declared.Size.{Size}
-use Rattle.script.specs.Names.{kind_of, runs_ticks, draws_picture, only_asks}
+use mathlib.Core.Logic.{◌⊎◌}
+use Rattle.script.specs.Names.{kind_of}
+use Rattle.script.specs.declared.names.Kind.{Kind}
+use Rattle.script.specs.declared.names.Kind.TheVariants.{WritesRegister, ChangesMemory, RunsTicks, DrawsPicture, OnlyAsks}
 use Rattle.script.specs.declared.command.Command.{Command}
 use Rattle.script.specs.Script.{skipped, line_command, ticks_of}
 use Rattle.changes.specs.declared.Done.{Done}
@@ -34,7 +37,7 @@ use Rattle.report.specs.Notes.{fault_texts}
 use Rattle.report.specs.Pages.{blank_page, turned, spaced, next_line}
 use Rattle.report.specs.declared.Page.{Page}
 use Rattle.questions.specs.Answers.{Shown, shown_texts, verdict_shown, bytes_shown, answer_shown}
-use Rattle.session.specs.Shows.{open_shown, close_shown, no_picture, head_shown, page_weave, woven_shown, ppm_shown, is_shown, refused_shown, step_shown, tick_shown, ticks_shown, ran_texts, run_shown, sized, picture_shown, result_shown, command_shown, line_shown}
+use Rattle.session.specs.Shows.{open_shown, close_shown, no_picture, head_shown, page_weave, woven_shown, ppm_shown, shows_ticks, refused_shown, step_shown, tick_shown, ticks_shown, ran_texts, run_shown, sized, picture_shown, result_shown, command_shown, line_shown}
 
 -- a page and its bytes are what is shown
 abbrev pub Leaves : Shown → Page → List ℕ → Type 0
@@ -146,42 +149,33 @@ pub picture_shown_lem : (p : Page) (m : Machine) (picture room : List ℕ) (refu
 unfolding picture_shown
 picture_shown_lem p m picture room refusal count size e width w height h half k part f = rw (w, h, k, e, f)
 
-module _ (p : Page) (c : Command) (d : Done) (picture room : List ℕ) (k : ℕ) (e : k ≡ kind_of c.name) where
-  pub result_run : k ≡ runs_ticks → result_shown p c d picture room ≡ run_shown p room d.ticks d.refusal
+module _ (p : Page) (c : Command) (d : Done) (picture room : List ℕ) where
+  pub result_run : RunsTicks ≡ kind_of c.name → result_shown p c d picture room ≡ run_shown p room d.ticks d.refusal
   unfolding result_shown
-  result_run h = rw (← e, eq-eqb k runs_ticks h)
+  result_run k = rw (← k) refl
 
-  module _ (n : k ≡ runs_ticks → ⊥) where
-    pub result_picture : k ≡ draws_picture → result_shown p c d picture room ≡ picture_shown p d.machine picture room d.refusal (get_or c.left.values 0 0)
-    unfolding result_shown
-    result_picture h = rw (← e, ne_eqb k runs_ticks n, eq-eqb k draws_picture h)
+  pub result_picture : DrawsPicture ≡ kind_of c.name → result_shown p c d picture room ≡ picture_shown p d.machine picture room d.refusal (get_or c.left.values 0 0)
+  unfolding result_shown
+  result_picture k = rw (← k) refl
 
-    module _ (o : k ≡ draws_picture → ⊥) where
-      pub result_answer : k ≡ only_asks → result_shown p c d picture room ≡ answer_shown p c d.machine room
-      unfolding result_shown
-      result_answer h = rw (← e, ne_eqb k runs_ticks n, ne_eqb k draws_picture o, eq-eqb k only_asks h)
+  pub result_answer : OnlyAsks ≡ kind_of c.name → result_shown p c d picture room ≡ answer_shown p c d.machine room
+  unfolding result_shown
+  result_answer k = rw (← k) refl
 
-      pub result_verdict : (k ≡ only_asks → ⊥) → result_shown p c d picture room ≡ verdict_shown p room d.refusal
-      unfolding result_shown
-      result_verdict h = rw (← e, ne_eqb k runs_ticks n, ne_eqb k draws_picture o, ne_eqb k only_asks h)
+  pub result_verdict : (k : Kind) → k ≡ kind_of c.name → (k ≡ WritesRegister) ⊎ (k ≡ ChangesMemory) → result_shown p c d picture room ≡ verdict_shown p room d.refusal
+  unfolding result_shown
+  result_verdict k e (◌⊎◌.inl h) = rw (← e, h) refl
+  result_verdict k e (◌⊎◌.inr h) = rw (← e, h) refl
 
--- by the test that the code makes: a command's kind where its ticks are shown, and 0 where not
-module _ (p : Page) (c : Command) (d : Done) (memory picture room : List ℕ) (b : Bool) (eb : b ≡ is_shown p.form c.name) (k : ℕ) (ek : k ≡ kind_of c.name) (e : ℕ) where
-  pub command_ticks : e ≡ cond b k 0 → e ≡ runs_ticks → (part : List ℕ) → part ≡ take d.memory memory → (count : ℕ) → count ≡ ticks_of c → command_shown p c d memory picture room ≡ ticks_shown d.machine.regs part d.machine.generator (shown p room) count
+-- by the test that the code makes
+module _ (p : Page) (c : Command) (d : Done) (memory picture room : List ℕ) (b : Bool) (eb : b ≡ shows_ticks p.form c.name) where
+  pub command_ticks : b ≡ true → (part : List ℕ) → part ≡ take d.memory memory → (count : ℕ) → count ≡ ticks_of c → command_shown p c d memory picture room ≡ ticks_shown d.machine.regs part d.machine.generator (shown p room) count
   unfolding command_shown
-  command_ticks t h part f count n = go b refl
-    where
-      go : (x : Bool) → b ≡ x → command_shown p c d memory picture room ≡ ticks_shown d.machine.regs part d.machine.generator (shown p room) count
-      go true y = rw (← eb, y, ← ek, eq-eqb k runs_ticks (ap (λ x. cond x k 0) (sym y) ∙ sym t ∙ h), f, n)
-      go false y = let z : 0 ≡ runs_ticks = ap (λ x. cond x k 0) (sym y) ∙ sym t ∙ h in absurd (omega (arith, z))
+  command_ticks h part f count n = rw (← eb, h, f, n)
 
-  pub command_result : e ≡ cond b k 0 → (e ≡ runs_ticks → ⊥) → (n : Done) → n ≡ done_of c d.machine d.memory memory (length picture) → (colours : List ℕ) → colours ≡ picture_after c d.machine d.memory memory picture → command_shown p c d memory picture room ≡ result_shown p c n colours room
+  pub command_result : b ≡ false → (n : Done) → n ≡ done_of c d.machine d.memory memory (length picture) → (colours : List ℕ) → colours ≡ picture_after c d.machine d.memory memory picture → command_shown p c d memory picture room ≡ result_shown p c n colours room
   unfolding command_shown
-  command_result t h n f colours g = go b refl
-    where
-      go : (x : Bool) → b ≡ x → command_shown p c d memory picture room ≡ result_shown p c n colours room
-      go true y = rw (← eb, y, ← ek, ne_eqb k runs_ticks (λ z. h (t ∙ ap (λ x. cond x k 0) y ∙ z)), f, g)
-      go false y = rw (← eb, y, f, g)
+  command_result h n f colours g = rw (← eb, h, f, g)
 
 -- ---- lines
 

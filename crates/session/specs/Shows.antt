@@ -1,5 +1,5 @@
 -- What is shown of a script (docs/SCRIPT.md), in each form: the page, and the bytes that wait on it. Assumes nothing.
-use Rattle.std.specs.Prelude.{ℕ, zero, suc, ◌*◌, Bool, cond, ◌||◌, ◌&&◌, List, [], ◌∷◌, ◌++◌, ◌≡◌, eqb, length, take, get_or}
+use Rattle.std.specs.Prelude.{ℕ, zero, suc, ◌*◌, Bool, false, cond, ◌||◌, ◌&&◌, List, [], ◌∷◌, ◌++◌, ◌≡◌, eqb, length, take, get_or}
 use Rattle.std.proofs.lemmas.List.Edits.{sets}
 use Rattle.base.specs.Count.{run}
 use Rattle.room.specs.Room.{put_texts, put_ends}
@@ -17,7 +17,7 @@ use Rattle.weave.specs.declared.Weave.{Weave}
 use Rattle.weave.specs.Weave.{byte_at, row_put}
 use Rattle.calls.specs.Calls.{size_of}
 use Rattle.calls.specs.Woven.{weave_of, Woven}
-use Rattle.script.specs.Names.{kind_of, runs_ticks, draws_picture, only_asks}
+use Rattle.script.specs.Names.{kind_of, by_kind}
 use Rattle.script.specs.declared.command.Command.{Command}
 use Rattle.script.specs.Script.{skipped, line_command, ticks_of}
 use Rattle.changes.specs.declared.Done.{Done}
@@ -71,6 +71,10 @@ ppm_shown p picture room =
 -- a waveform shows the ticks of `tick` and of `run`, answers those of `tick`, a picture none
 abbrev pub is_shown : ℕ → ℕ → Bool
 is_shown form name = eqb form 1 || (eqb form 0 && eqb name 5)
+
+-- a command that runs ticks which are shown
+abbrev pub shows_ticks : ℕ → ℕ → Bool
+shows_ticks form name = by_kind (kind_of name) false false (is_shown form name) false false
 
 abbrev pub refused_shown : Page → List ℕ → ℕ → Shown
 refused_shown p room refusal = shown_texts p room (refused_texts p.form p.lines refusal)
@@ -134,15 +138,17 @@ pub record InterlacedFile (p : Page) (m : Machine) : Type 0 where
 -- WHAT IS SHOWN OF A COMMAND whose ticks are not shown, by what it has done
 unfoldable pub result_shown : Page → Command → Done → List ℕ → List ℕ → Shown
 result_shown p c d picture room =
-    cond (eqb (kind_of c.name) runs_ticks) (run_shown p room d.ticks d.refusal)
-    (cond (eqb (kind_of c.name) draws_picture) (picture_shown p d.machine picture room d.refusal (get_or c.left.values 0 0))
-    (cond (eqb (kind_of c.name) only_asks) (answer_shown p c d.machine room)
-    (verdict_shown p room d.refusal)))
+    by_kind (kind_of c.name)
+    (verdict_shown p room d.refusal)
+    (verdict_shown p room d.refusal)
+    (run_shown p room d.ticks d.refusal)
+    (picture_shown p d.machine picture room d.refusal (get_or c.left.values 0 0))
+    (answer_shown p c d.machine room)
 
 -- WHAT IS SHOWN OF A GOOD COMMAND. d: what was done before it, with the machine and how many bytes of `memory` are lent
 unfoldable pub command_shown : Page → Command → Done → List ℕ → List ℕ → List ℕ → Shown
 command_shown p c d memory picture room =
-    cond (is_shown p.form c.name && eqb (kind_of c.name) runs_ticks)
+    cond (shows_ticks p.form c.name)
     (ticks_shown d.machine.regs (take d.memory memory) d.machine.generator (record { page = p; bytes = room }) (ticks_of c))
     (result_shown p c (done_of c d.machine d.memory memory (length picture)) (picture_after c d.machine d.memory memory picture) room)
 

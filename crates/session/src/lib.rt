@@ -6,7 +6,7 @@ ghost use Rattle.generator.specs.Sound.{Sound};
 ghost use Rattle.changes.specs.LentMemory.{memory_after};
 ghost use Rattle.changes.specs.Changes.{run_done, done_of, picture_after};
 ghost use Rattle.session.specs.Session.{first_done, line_done, line_memory, line_picture};
-ghost use Rattle.session.specs.Shows.{open_shown, close_shown, page_weave, woven_shown, ppm_shown, is_shown, tick_shown, ticks_shown, run_shown, picture_shown, result_shown, command_shown, line_shown};
+ghost use Rattle.session.specs.Shows.{open_shown, close_shown, page_weave, woven_shown, ppm_shown, is_shown, shows_ticks, tick_shown, ticks_shown, run_shown, picture_shown, result_shown, command_shown, line_shown};
 
 use changes::Done;
 use input::{LINE, PIECE};
@@ -14,6 +14,7 @@ use machine::Machine;
 use report::{ANSWERS, PICTURE, Page, WAVE};
 use script::command::Command;
 use script::names;
+use script::names::Kind;
 use std::io::{Read, Write};
 use text::ppm;
 use weave::Weave;
@@ -61,15 +62,12 @@ fn ticks<W: Write>(d: Desk, memory: &[u8], out: &mut [u8; ROOM], said: &mut W, c
     let before = d.done;
     let machine = before.machine;
     let regs = machine.regs;
-    let colours = regs.colours;
-    let palette = regs.palette;
-    let store = regs.store;
+    let tables = regs.tables();
     let n = regs.numbers();
     let mut generator = machine.generator;
     let mut page = d.page;
-    let mut ticks: u32 = 0;
-    while ticks < count {
-        let next = generator::tick_with(n, &colours, &palette, &store, generator, memory);
+    for ticks in 0..count {
+        let next = generator::tick_with(n, tables, generator, memory);
         let refusal = next.refusal;
         let signals = next.signals;
         generator = next.next;
@@ -84,12 +82,11 @@ fn ticks<W: Write>(d: Desk, memory: &[u8], out: &mut [u8; ROOM], said: &mut W, c
             };
             return Desk { done, page };
         }
-        ticks += 1;
     }
     let machine = Machine { regs, generator };
     let done = Done {
         refusal: 0,
-        ticks,
+        ticks: count,
         memory: before.memory,
         machine,
     };
@@ -102,8 +99,8 @@ fn show_run(p: Page, out: &mut [u8; ROOM], done: u32, refusal: u32) -> Page
     ensures bytes { out.new ≡ (run_shown p out.old done refusal).bytes }
 {
     let end = text::put_count(out, p.waiting, b"ran ", done as u64);
-    let waiting = base::choose(p.form == ANSWERS, end as u64, p.waiting as u64);
-    let page = report::turn(p, waiting as usize);
+    let waiting = base::choose(p.form == ANSWERS, end, p.waiting);
+    let page = report::turn(p, waiting);
     if refusal == 0 {
         return page;
     }
@@ -146,21 +143,16 @@ fn show_result<W: Write>(
     ensures page { result ≡ (result_shown p c done picture.now out.old).page }
     ensures bytes { out.new ≡ (result_shown p c done picture.now out.old).bytes }
 {
-    let kind = names::kind_of(c.name);
-    let refusal = done.refusal;
-    if kind == names::RUNS_TICKS {
-        return show_run(p, out, done.ticks, refusal);
-    }
+    let left = c.left;
+    let values = left.values;
     let machine = done.machine;
-    if kind == names::DRAWS_PICTURE {
-        let left = c.left;
-        let values = left.values;
-        return show_picture(p, machine, picture, out, said, refusal, values[0]);
+    let refusal = done.refusal;
+    match names::kind_of(c.name) {
+        Kind::RunsTicks => show_run(p, out, done.ticks, refusal),
+        Kind::DrawsPicture => show_picture(p, machine, picture, out, said, refusal, values[0]),
+        Kind::OnlyAsks => questions::answer(p, c, machine, out, said),
+        Kind::WritesRegister | Kind::ChangesMemory => report::verdict(p, out, refusal),
     }
-    if kind == names::ONLY_ASKS {
-        return questions::answer(p, c, machine, out, said);
-    }
-    report::verdict(p, out, refusal)
 }
 
 // A waveform shows the ticks of `tick` and of `run`, answers those of `tick`, a picture none.
@@ -168,6 +160,16 @@ fn is_shown(form: u32, name: u32) -> bool
     ensures shown { result ≡ is_shown form name }
 {
     (form == WAVE) | ((form == ANSWERS) & (name == names::TICK))
+}
+
+// A command that runs ticks which are shown.
+fn shows_ticks(form: u32, name: u32) -> bool
+    ensures shown { result ≡ shows_ticks form name }
+{
+    match names::kind_of(name) {
+        Kind::RunsTicks => is_shown(form, name),
+        Kind::WritesRegister | Kind::ChangesMemory | Kind::DrawsPicture | Kind::OnlyAsks => false,
+    }
 }
 
 // A good command.
@@ -189,9 +191,7 @@ fn do_command<W: Write>(
 {
     let before = d.done;
     let p = d.page;
-    let kind = names::kind_of(c.name);
-    let shown = base::first(is_shown(p.form, c.name), kind, 0);
-    if shown == names::RUNS_TICKS {
+    if shows_ticks(p.form, c.name) {
         let lent = room::lent(memory, before.memory as usize);
         return ticks(d, lent, out, said, script::ticks_of(c));
     }
@@ -261,11 +261,9 @@ fn write_woven<W: Write>(
         half: p.half,
         late: false,
     };
-    let mut row: u64 = 0;
-    while row < p.height {
+    for row in 0..p.height {
         let count = weave::put_row(out, picture, w, row);
         let _ = drawn.write_all(room::lent(out, count));
-        row += 1;
     }
 }
 
@@ -323,6 +321,7 @@ fn do_script<R: Read, W: Write>(
     let mut line = [0u8; LINE];
     let mut desk = first_desk(p);
     let mut reader = input::begin();
+    // As it is: no index: the clause `fewer` of `next` ends it. `chart` does another thing with a line, and keeps another desk.
     while 0 < reader.turns {
         reader = input::next(script, reader, &mut piece, &mut line);
         if input::is_line(reader) {

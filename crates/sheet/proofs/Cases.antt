@@ -17,20 +17,23 @@ use Rattle.base.proofs.Lists.{left_from}
 next_left : (sheet : List ℕ) (i : ℕ) → drop 5 (drop (5 * i) sheet) ≡ drop (5 * (i + 1)) sheet
 next_left sheet i = let e : 5 * i + 5 ≡ 5 * (i + 1) = omega arith in rw (drop-drop, e)
 
-chained : (held field rest : ℕ) → cond (eqb (cond (eqb held 0) field held) 0) rest (cond (eqb held 0) field held) ≡ cond (eqb held 0) (cond (eqb field 0) rest field) held
-chained zero field rest = refl
-chained (suc held) field rest = simp eqb-suc-zero
+-- a field is judged: its own refusal, or else that of the fields after it
+module _ (sheet : List ℕ) (i whole : ℕ) (h : i < 14) (kept : refusal_from (drop i tags) (drop (5 * i) sheet) ≡ whole)
+    (field : ℕ) (field_is : field ≡ field_refusal (get_or tags i 0) (drop (5 * i) sheet)) where
+  judged : cond (eqb field 0) (refusal_from (drop (i + 1) tags) (drop (5 * (i + 1)) sheet)) field ≡ whole
+  unfolding refusal_from
+  judged = rw (field_is, ← next_left sheet i) (rw (left_from tags i) at kept)
 
--- a refusal held stands; else the left-from field is judged
-pub judged : (sheet : List ℕ) (i held whole : ℕ) → i < 14 → cond (eqb held 0) (refusal_from (drop i tags) (drop (5 * i) sheet)) held ≡ whole → (turn : ℕ) → turn ≡ cond (eqb held 0) (field_refusal (get_or tags i 0) (drop (5 * i) sheet)) held → cond (eqb turn 0) (refusal_from (drop (i + 1) tags) (drop (5 * (i + 1)) sheet)) turn ≡ whole
-unfolding refusal_from
-judged sheet i held whole h kept turn e =
-    rw (e, chained, ← next_left sheet i) (rw (left_from tags i) at kept)
+  pub refused : (field ≡ 0 → ⊥) → field ≡ whole
+  refused n = rw (ne_eqb field 0 n) at judged
+
+  pub passed : field ≡ 0 → refusal_from (drop (i + 1) tags) (drop (5 * (i + 1)) sheet) ≡ whole
+  passed z = rw z at judged
 
 -- nothing is due any more
-pub judged_all : (sheet : List ℕ) (i held whole : ℕ) → i ≡ 14 → cond (eqb held 0) (refusal_from (drop i tags) (drop (5 * i) sheet)) held ≡ whole → cond (eqb held 0) (cond (eqb (length (drop 70 sheet)) 0) 0 33) held ≡ whole
+pub judged_all : (sheet : List ℕ) (i whole : ℕ) → i ≡ 14 → refusal_from (drop i tags) (drop (5 * i) sheet) ≡ whole → cond (eqb (length (drop 70 sheet)) 0) 0 33 ≡ whole
 unfolding refusal_from
-judged_all sheet i held whole e kept = rw e at kept
+judged_all sheet i whole e kept = rw e at kept
 
 -- a value is stored
 pub valued : (sheet values whole : List ℕ) (i : ℕ) → i < 14 → sets values i (values_from (drop i tags) (drop (5 * i) sheet)) ≡ whole → sets (set values i (pair (drop (5 * i) sheet) 3)) (i + 1) (values_from (drop (i + 1) tags) (drop (5 * (i + 1)) sheet)) ≡ whole

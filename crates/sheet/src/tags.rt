@@ -11,5 +11,5 @@ const TAGS: [u8; 14] = [
 pub fn tag_of(number: usize) -> u8
     ensures tag { result ≡ get_or tags number 0 }
 {
-    if number < 14 { TAGS[number] } else { 0 }
+    TAGS.get(number).copied().unwrap_or(0)
 }

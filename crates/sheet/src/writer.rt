@@ -10,13 +10,16 @@ use crate::tags;
 fn is_over(values: [u32; 14]) -> bool
     ensures over { result ≡ over values }
 {
-    let mut over = false;
-    let mut i: usize = 0;
-    while i < 14 {
-        over = over | (65535 < values[i]);
-        i += 1;
-    }
-    over
+    values.iter().any(|value| 65535 < *value)
+}
+
+// The refusal of a write, or 0.
+fn write_refusal(values: [u32; 14], room: &[u8]) -> u32
+    ensures refusal { result ≡ write_refusal values room.now }
+{
+    let over = is_over(values);
+    let small = base::choose(room.len() < 70, 35, 0);
+    base::choose(over, 34, small)
 }
 
 // One field stored from `at` on.
@@ -31,19 +34,16 @@ fn put_field(room: &mut [u8], at: usize, tag: u8, value: u32)
     room[at + 4] = (value % 256) as u8;
 }
 
+// As it is: the refusal is document 01's number, 0 for none, as the definition write_refusal has it and the theorem taken.
 // The sheet of fourteen values, written at the front of `room`; what stands past its 70 bytes is left alone.
 pub fn write(values: [u32; 14], room: &mut [u8]) -> u32
     ensures refusal { result ≡ write_refusal values room.old }
     ensures bytes { room.new ≡ room_written values room.old }
 {
-    let over = is_over(values);
-    let small = base::first(room.len() < 70, 35, 0);
-    let refusal = base::first(over, 34, small);
+    let refusal = write_refusal(values, room);
     if refusal == 0 {
-        let mut i: usize = 0;
-        while i < 14 {
+        for i in 0..14 {
             put_field(room, 5 * i, tags::tag_of(i), values[i]);
-            i += 1;
         }
     }
     refusal

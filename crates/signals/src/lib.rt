@@ -5,13 +5,14 @@ ghost use Rattle.std.specs.Prelude.{◌≡◌};
 ghost use Rattle.signals.specs.Signals.{colours_of, silent};
 
 // A pixel that goes out: its colour, red in bits 23 to 16, green, blue.
-#[derive(Clone, Copy)]
+#[derive(Clone, Copy, PartialEq, Eq)]
 pub struct Dot {
     pub colour: u32,
 }
 
 // What a tick puts out. An address is answered exactly where `transfer` is set.
-#[derive(Clone, Copy)]
+// As it is: an address that is not answered is 0, as `signals_with` and the demands say of it, and so no Option.
+#[derive(Clone, Copy, PartialEq, Eq)]
 pub struct Signals {
     pub sync: bool,
     pub vsync: bool,
@@ -27,10 +28,7 @@ pub struct Signals {
 pub fn colours(four: [Dot; 4]) -> [u32; 4]
     ensures colours { result ≡ colours_of four }
 {
-    let a = four[0];
-    let b = four[1];
-    let c = four[2];
-    let d = four[3];
+    let [a, b, c, d] = four;
     [a.colour, b.colour, c.colour, d.colour]
 }
 
@@ -38,7 +36,6 @@ pub fn colours(four: [Dot; 4]) -> [u32; 4]
 pub fn silence() -> Signals
     ensures signals { result ≡ silent }
 {
-    let black = Dot { colour: 0 };
     Signals {
         sync: false,
         vsync: false,
@@ -47,6 +44,6 @@ pub fn silence() -> Signals
         request: false,
         transfer: false,
         address: 0,
-        dots: [black, black, black, black],
+        dots: [Dot { colour: 0 }; 4],
     }
 }

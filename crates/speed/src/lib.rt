@@ -3,7 +3,7 @@
 
 ghost use Rattle.std.specs.Prelude.{◌≡◌, ◌+◌, ◌≤◌, length};
 ghost use Rattle.std.proofs.lemmas.List.Edits.{sets};
-ghost use Rattle.registers.specs.File.{file_of};
+ghost use Rattle.registers.specs.File.{file_with};
 ghost use Rattle.generator.specs.Counters.{fresh};
 ghost use Rattle.generator.specs.Sound.{Sound};
 ghost use Rattle.picture.specs.Picture.{drawn_of, buffer_of};
@@ -11,12 +11,11 @@ ghost use Rattle.speed.specs.Speed.{file, shown};
 ghost use Rattle.speed.specs.Ticks.{bit, levels_of, words_of, ticks_in, answer_in, words_in, sums_in, Filled};
 
 use generator::{Generator, Went};
-use pixel::Sums;
-use registers::{Numbers, Registers};
+use registers::{Numbers, Registers, Tables};
 use signals::Signals;
-use units::{HalfLines, ScreenUnits};
 
 // The refusal or 0, and the three sums.
+// As it is: the C interface.
 #[repr(C)]
 #[derive(Clone, Copy)]
 pub struct Shown {
@@ -26,6 +25,8 @@ pub struct Shown {
     pub blue: u32,
 }
 
+// The picture of a frame.
+// As it is: the C interface.
 #[unsafe(no_mangle)]
 pub extern "C" fn speed_draw(
     params: &[u32; 14],
@@ -43,35 +44,17 @@ pub extern "C" fn speed_draw(
     ensures answer { result ≡ shown (drawn_of (file params.now mask control top colours.now position palette.now store.now) memory.now fresh (length buffer.old)) }
     ensures bytes { buffer.new ≡ buffer_of (file params.now mask control top colours.now position palette.now store.now) memory.now fresh buffer.old }
 {
-    let fourteen = *params;
-    let three = *colours;
-    let entries = *palette;
-    let words = *store;
     let r = Registers {
-        params: fourteen,
+        params: *params,
         mask,
         control,
         top,
-        colours: three,
+        colours: *colours,
         position,
-        palette: entries,
-        store: words,
+        palette: *palette,
+        store: *store,
     };
-    let sums = Sums {
-        red: 0,
-        green: 0,
-        blue: 0,
-    };
-    let g = Generator {
-        second: false,
-        half: HalfLines(0),
-        at: ScreenUnits(0),
-        seen: ScreenUnits(0),
-        held: 0,
-        asked: false,
-        sums,
-    };
-    let drawn = picture::draw(r, g, memory, buffer);
+    let drawn = picture::draw(r, Generator::fresh(), memory, buffer);
     let next = drawn.next;
     Shown {
         refusal: drawn.refusal,
@@ -90,6 +73,7 @@ fn bit(high: bool, weight: u32) -> u32
 }
 
 // The six levels of a tick in one word.
+#[tactic(auto, unfolding(crate::specs::Ticks::levels_of))]
 fn levels_of(s: Signals) -> u32
     ensures levels { result ≡ levels_of s }
 {
@@ -120,33 +104,20 @@ fn put(out: &mut [u32], k: usize, s: Signals)
 fn ticks_in(words: usize) -> u32
     ensures ticks { result ≡ ticks_in words }
 {
-    let places = words / 6;
-    if places < 0xFFFFFFFF {
-        return places as u32;
-    }
-    0xFFFFFFFF
+    (words / 6).min(0xFFFFFFFF) as u32
 }
 
 // Ticks for as long as there is room for six words more. A refused one ends them, and writes nothing.
-fn fill(
-    n: Numbers,
-    colours: &[u32; 3],
-    palette: &[u32; 256],
-    store: &[u16; 512],
-    g: Generator,
-    memory: &[u8],
-    out: &mut [u32],
-) -> Went
-    requires { Sound (file_of n colours.now palette.now store.now) g }
-    ensures filled { Filled (file_of n colours.now palette.now store.now) memory.now g
+fn fill(n: Numbers, tables: Tables, g: Generator, memory: &[u8], out: &mut [u32]) -> Went
+    requires { Sound (file_with n tables) g }
+    ensures filled { Filled (file_with n tables.entry) memory.now g
         out.old out.new result }
 {
     let most = ticks_in(out.len());
     let mut now = g;
-    let mut done: u32 = 0;
     let mut k: usize = 0;
-    while done < most {
-        let t = generator::tick_with(n, colours, palette, store, now, memory);
+    for done in 0..most {
+        let t = generator::tick_with(n, tables, now, memory);
         let refusal = t.refusal;
         if refusal != 0 {
             return Went {
@@ -157,11 +128,10 @@ fn fill(
         }
         put(out, k, t.signals);
         now = t.next;
-        done += 1;
         k += 6;
     }
     Went {
-        done,
+        done: most,
         refusal: 0,
         next: now,
     }
@@ -170,6 +140,7 @@ fn fill(
 // Ticks from a frame's start on, six words of `out` to a tick: the levels (bit 0 sync, 1 vertical sync, 2 FrameInactive, 3 blank, 4 request,
 // 5 transfer), the address, the four colours. They end where one is refused or no room for six words is left. Answers the refusal or 0 above
 // bit 32, and the ticks done; `sums` is then red, green, blue.
+// As it is: the C interface.
 #[unsafe(no_mangle)]
 pub extern "C" fn speed_ticks(
     params: &[u32; 14],
@@ -189,18 +160,20 @@ pub extern "C" fn speed_ticks(
     ensures words { out.new ≡ words_in (file params.now mask control top colours.now position palette.now store.now) memory.now fresh out.old }
     ensures sums { sums.new ≡ sums_in (file params.now mask control top colours.now position palette.now store.now) memory.now fresh out.old }
 {
-    let fourteen = *params;
     let n = Numbers {
-        params: fourteen,
+        params: *params,
         mask,
         control,
         top,
         position,
     };
-    let g = Generator::fresh();
-    let w = fill(n, colours, palette, store, g, memory, out);
-    let next = w.next;
-    let last = next.sums;
+    let tables = Tables {
+        colours,
+        palette,
+        store,
+    };
+    let w = fill(n, tables, Generator::fresh(), memory, out);
+    let last = w.next.sums;
     *sums = [last.red, last.green, last.blue];
     w.refusal as u64 * 0x100000000 + w.done as u64
 }

@@ -7,6 +7,7 @@ ghost use Rattle.station.specs.Number.{number, checksums_number, field_number};
 use sheet::field;
 
 // The refusal above, the value below.
+// As it is: the C interface, one number for both.
 fn numbered(refusal: u32, value: u32) -> u64
     ensures number { result ≡ number refusal value }
 {
@@ -18,7 +19,7 @@ pub fn station_compare_checksums(a: &[u8], b: &[u8]) -> u64
     ensures number { result ≡ checksums_number a.now b.now }
 {
     let compared = vault::compare(a, b);
-    numbered(compared.refusal, base::first(compared.equal, 1, 0))
+    numbered(compared.refusal, base::choose(compared.equal, 1, 0))
 }
 
 // The value of one field of a whole good sheet.

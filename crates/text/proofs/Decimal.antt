@@ -1,7 +1,6 @@
 -- The fewest decimal digits are one number. Assumes nothing.
 use Prim.Native.Nat.{ℕ, zero, suc, ◌+◌, ◌-◌, ◌^◌, ◌≤◌, ◌<◌}
 use mathlib.Core.Bool.{Bool, true, false}
-use mathlib.Core.List.{List}
 use mathlib.Core.Path.{◌≡◌, refl, sym, ap, ◌∙◌}
 use native.Mathlib.Nat.{le_trans, pow-le-pow_right}
 use native.Mathlib.Omega.{arith}
@@ -48,8 +47,8 @@ twenty value k v f = go (ltb 20 k) refl
     go false e = ltb-false 20 k e
 
 -- what `io::decimal` puts is the number's text
-pub decimal_whole : (value k : ℕ) (text : List ℕ) → value < 2 ^ 64 → IsDigitCount 10 1 value k → text ≡ last_digits 10 k value → text ≡ decimal_text value
+pub decimal_whole : (value k : ℕ) → value < 2 ^ 64 → IsDigitCount 10 1 value k → last_digits 10 k value ≡ decimal_text value
 unfolding decimal_text
-decimal_whole value k text v (h, n, f) e =
+decimal_whole value k v (h, n, f) =
     let most = twenty value k v f in
-    e ∙ ap (λ j. last_digits 10 j value) (fewest_places 1 19 k value h (omega arith) n f)
+    ap (λ j. last_digits 10 j value) (fewest_places 1 19 k value h (omega arith) n f)

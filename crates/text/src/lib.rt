@@ -25,6 +25,7 @@ pub fn put_hex(room: &mut [u8], at: usize, value: u32) -> usize
 }
 
 // A number in decimal.
+#[tactic(auto, using(crate::proofs::Decimal::decimal_whole))]
 pub fn put_decimal(room: &mut [u8], at: usize, value: u64) -> usize
     ensures place { result ≡ put_end room.old at (length (decimal_text value)) }
     ensures bytes { room.new ≡ put_text room.old at (decimal_text value) }
@@ -36,6 +37,7 @@ pub fn put_decimal(room: &mut [u8], at: usize, value: u64) -> usize
 }
 
 // A text, a number in decimal, and a line's end.
+#[tactic(auto, unfolding(room::specs::Room::put_texts, room::specs::Room::put_ends))]
 pub fn put_count(room: &mut [u8], at: usize, text: &[u8], value: u64) -> usize
     ensures place { result ≡ put_ends room.old at (count_texts text.now value) }
     ensures bytes { room.new ≡ put_texts room.old at (count_texts text.now value) }

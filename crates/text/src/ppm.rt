@@ -4,6 +4,7 @@ ghost use Rattle.room.specs.Room.{put_texts, put_ends};
 ghost use Rattle.text.specs.Ppm.{ppm_texts};
 
 // The head of a PPM.
+#[tactic(auto, unfolding(room::specs::Room::put_texts, room::specs::Room::put_ends))]
 pub fn put_ppm(room: &mut [u8], at: usize, width: u64, height: u64) -> usize
     ensures place { result ≡ put_ends room.old at (ppm_texts width height) }
     ensures bytes { room.new ≡ put_texts room.old at (ppm_texts width height) }

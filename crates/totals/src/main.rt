@@ -11,6 +11,7 @@ use std::io::Read;
 const EIGHT_BITS: u32 = 0x300000;
 
 // Reads until there is no room or the input ends: how many bytes there are.
+// As it is: where the input ends early, the library's read_exact does not say how many bytes there were.
 fn read_full<R: Read>(input: &mut R, bytes: &mut [u8]) -> usize
     ensures within { result ≤ length bytes.new }
 {
@@ -31,7 +32,7 @@ fn line(out: &impl Print, name: &str, n: u64) {
 }
 
 fn refused(out: &impl Print, n: u32) {
-    line(out, "refused", n as u64);
+    line(out, "refused", u64::from(n));
 }
 
 fn shown(out: &impl Print, t: Totals) {

@@ -3,11 +3,12 @@
 
 ghost use Rattle.std.specs.Prelude.{◌≡◌};
 ghost use Rattle.vault.specs.Nine.{nine_bytes};
-ghost use Rattle.vault.specs.Compare.{compared};
+ghost use Rattle.vault.specs.Compare.{nine_long, compared};
 
 use base::channels;
 
 // A refusal, or 0 and whether the two are equal.
+// As it is: a number beside the answer, not a Result: the definition compared and the theorems equal_same and same_equal have it so.
 #[derive(Clone, Copy)]
 pub struct Comparison {
     pub refusal: u32,
@@ -34,29 +35,27 @@ pub fn nine(words: [u32; 3]) -> [u8; 9]
     ]
 }
 
-// Whether two checksums match. All nine bytes are looked at, whatever the first ones are.
+// Both checksums are nine bytes long.
+fn are_nine_long(a: &[u8], b: &[u8]) -> bool
+    ensures test { result ≡ nine_long a.now b.now }
+{
+    (a.len() == 9) & (b.len() == 9)
+}
+
+// Whether two checksums match.
+// As it is: a walk and no `==`, so that all nine bytes are looked at, whatever the first ones are.
 pub fn compare(a: &[u8], b: &[u8]) -> Comparison
     ensures whole { result ≡ compared a.now b.now }
 {
-    if a.len() != 9 {
-        return Comparison {
-            refusal: 24,
-            equal: false,
-        };
-    }
-    if b.len() != 9 {
+    if !are_nine_long(a, b) {
         return Comparison {
             refusal: 24,
             equal: false,
         };
     }
     let mut equal = true;
-    let mut i: usize = 0;
-    while i < 9 {
-        let x = a[i];
-        let y = b[i];
-        equal = equal & (x == y);
-        i += 1;
+    for (x, y) in a.iter().zip(b) {
+        equal = equal & (*x == *y);
     }
     Comparison { refusal: 0, equal }
 }

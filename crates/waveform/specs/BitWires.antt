@@ -15,7 +15,24 @@ differ a b = cond a (not b) b
 abbrev pub level_change : Bool → ℕ → Bool → Bool → List ℕ
 level_change all mark before level = cond (all || differ before level) (level_text mark level) []
 
--- the one-bit wires, in their order; their marks are a to f
+-- the one-bit wires, in their order: the mark of each, a to f, and its level in the tick before and in this one
+abbrev pub level_wires : Signals → Signals → List (ℕ × Bool × Bool)
+level_wires before s =
+    (97, before.sync, s.sync) ∷
+    (98, before.vsync, s.vsync) ∷
+    (99, before.inactive, s.inactive) ∷
+    (100, before.blank, s.blank) ∷
+    (101, before.request, s.request) ∷
+    (102, before.transfer, s.transfer) ∷
+    []
+
+abbrev pub level_differs : ℕ × Bool × Bool → Bool
+level_differs wire = differ wire.1 wire.2
+
+abbrev pub wire_change : Bool → ℕ × Bool × Bool → List ℕ
+wire_change all wire = level_change all wire.0 wire.1 wire.2
+
+-- what they write
 abbrev pub level_changes : Bool → Signals → Signals → List (List ℕ)
 level_changes all before s =
     level_change all 97 before.sync s.sync ∷

@@ -20,7 +20,23 @@ bus_change all mark before value = cond (all || not (eqb before value)) (bus_tex
 abbrev pub pixel_colour : Signals → ℕ → ℕ
 pixel_colour s k = (get_or s.dots k (record { colour = 0 })).colour
 
--- the wires, in their order; their marks are g to k
+-- the wires, in their order: the mark of each, g to k, and its value in the tick before and in this one
+abbrev pub bus_wires : Signals → Signals → List (ℕ × ℕ × ℕ)
+bus_wires before s =
+    (103, before.address, s.address) ∷
+    (104, pixel_colour before 0, pixel_colour s 0) ∷
+    (105, pixel_colour before 1, pixel_colour s 1) ∷
+    (106, pixel_colour before 2, pixel_colour s 2) ∷
+    (107, pixel_colour before 3, pixel_colour s 3) ∷
+    []
+
+abbrev pub bus_differs : ℕ × ℕ × ℕ → Bool
+bus_differs wire = not (eqb wire.1 wire.2)
+
+abbrev pub wire_change : Bool → ℕ × ℕ × ℕ → List ℕ
+wire_change all wire = bus_change all wire.0 wire.1 wire.2
+
+-- what they write
 abbrev pub bus_changes : Bool → Signals → Signals → List (List ℕ)
 bus_changes all before s =
     bus_change all 103 before.address s.address ∷

@@ -1,7 +1,7 @@
 // The wires of 24 bits in a waveform (a VCD file): the text of a number, and those that a tick changes.
 ghost use Rattle.std.specs.Prelude.{◌≡◌, ◌+◌, ◌/◌, ◌%◌, ◌^◌, ◌<◌, length};
 ghost use Rattle.room.specs.Room.{put_text, put_end, put_texts, put_ends};
-ghost use Rattle.waveform.specs.WideWires.{bus_text, bus_change, bus_changes, buses_differ};
+ghost use Rattle.waveform.specs.WideWires.{bus_text, bus_change, bus_wires, bus_changes, buses_differ};
 
 use signals::Signals;
 
@@ -21,10 +21,8 @@ fn bus_text(mark: u8, value: u32) -> [u8; 28]
     text[25] = b' ';
     text[26] = mark;
     text[27] = b'\n';
-    let mut k: usize = 0;
-    while k < 24 {
-        text[1 + k] = bit(value, 23 - k as u32);
-        k += 1;
+    for (k, digit) in text[1..25].iter_mut().enumerate() {
+        *digit = bit(value, 23 - k as u32);
     }
     text
 }
@@ -38,27 +36,36 @@ fn put_bus(room: &mut [u8], at: usize, all: bool, mark: u8, before: u32, value: 
     room::put_either(room, at, all | (before != value), &text, b"")
 }
 
+// The wires of 24 bits: the mark of each, and its value in two ticks.
+fn wires(b: Signals, s: Signals) -> [(u8, u32, u32); 5]
+    ensures wires { result ≡ bus_wires b s }
+{
+    let old = b.dots;
+    let new = s.dots;
+    [
+        (b'g', b.address, s.address),
+        (b'h', old[0].colour, new[0].colour),
+        (b'i', old[1].colour, new[1].colour),
+        (b'j', old[2].colour, new[2].colour),
+        (b'k', old[3].colour, new[3].colour),
+    ]
+}
+
 // The wires of 24 bits.
 pub fn put_buses(room: &mut [u8], at: usize, all: bool, b: Signals, s: Signals) -> usize
     ensures place { result ≡ put_ends room.old at (bus_changes all b s) }
     ensures bytes { room.new ≡ put_texts room.old at (bus_changes all b s) }
 {
-    let old = b.dots;
-    let new = s.dots;
-    let address = put_bus(room, at, all, b'g', b.address, s.address);
-    let first = put_bus(room, address, all, b'h', old[0].colour, new[0].colour);
-    let second = put_bus(room, first, all, b'i', old[1].colour, new[1].colour);
-    let third = put_bus(room, second, all, b'j', old[2].colour, new[2].colour);
-    put_bus(room, third, all, b'k', old[3].colour, new[3].colour)
+    let mut end = at;
+    for (mark, before, value) in wires(b, s) {
+        end = put_bus(room, end, all, mark, before, value);
+    }
+    end
 }
 
 // Some wire of 24 bits differs.
 pub fn buses_differ(b: Signals, s: Signals) -> bool
     ensures test { result ≡ buses_differ b s }
 {
-    let old = b.dots;
-    let new = s.dots;
-    let third = (old[2].colour != new[2].colour) | (old[3].colour != new[3].colour);
-    let first = (old[0].colour != new[0].colour) | ((old[1].colour != new[1].colour) | third);
-    (b.address != s.address) | first
+    wires(b, s).iter().any(|(_, before, value)| before != value)
 }

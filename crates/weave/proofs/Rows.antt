@@ -20,9 +20,9 @@ use Rattle.weave.specs.Part.{part_of, byte_in, Small}
 use Rattle.weave.proofs.Places.{byte_at_lem}
 
 -- a row that fits has small numbers, and three bytes of room for each pixel
-pub row_small : (w : Weave) (row size : ℕ) → is_row w row size ≡ true → Small w row × (3 * w.width ≤ size)
+pub row_small : (w : Weave) (row size : ℕ) → true ≡ is_row w row size → Small w row × (3 * w.width ≤ size)
 row_small w row size e =
-    let fits = both_hold _ _ e in
+    let fits = both_hold _ _ (sym e) in
     let inside = both_hold _ _ fits.0 in
     let high = both_hold _ _ inside.0 in
     let wide = both_hold _ _ high.0 in
@@ -84,15 +84,15 @@ Put w picture row room after count =
     (count ≡ length (row_put w picture row (length room))) × ((after ≡ sets room 0 (row_put w picture row (length room))) × KeptRoom room after count)
 
 module _ (w : Weave) (picture : List ℕ) (row : ℕ) (room : List ℕ) where
-  pub put_whole : is_row w row (length room) ≡ true → (p : Part) → p ≡ part_of w row → (after : List ℕ) → after ≡ run (byte_in picture p) 0 (3 * w.width) ++ drop (3 * w.width) room → Put w picture row room after (3 * w.width)
+  pub put_whole : true ≡ is_row w row (length room) → (p : Part) → p ≡ part_of w row → (after : List ℕ) → after ≡ run (byte_in picture p) 0 (3 * w.width) ++ drop (3 * w.width) room → Put w picture row room after (3 * w.width)
   unfolding row_put
   put_whole e p part after laid =
       let fits = (row_small w row (length room) e).1 in
       let same = run_same (byte_at w picture) (byte_in picture (part_of w row)) (3 * row * w.width) 0 (3 * w.width) (λ k h. rw (zero-add k) (byte_in_row w picture row k h)) in
       let sized = run_length (byte_at w picture) (3 * row * w.width) (3 * w.width) in
       let put : after ≡ sets room 0 (row_bytes w picture row) = laid ∙ rw (part, ← same, sets-eq (row_bytes w picture row) room 0 (omega (arith, sized)), sized, zero-add (3 * w.width)) in
-      rw e (sym sized, (put, record { end = fits; same = rw put (length-sets room 0 (row_bytes w picture row)) }))
+      rw (← e) (sym sized, (put, record { end = fits; same = rw put (length-sets room 0 (row_bytes w picture row)) }))
 
-  pub put_none : is_row w row (length room) ≡ false → Put w picture row room room 0
+  pub put_none : false ≡ is_row w row (length room) → Put w picture row room room 0
   unfolding row_put
-  put_none e = rw e (refl, (refl, record { end = omega arith; same = refl }))
+  put_none e = rw (← e) (refl, (refl, record { end = omega arith; same = refl }))

@@ -68,6 +68,7 @@ fn part_of(w: Weave, row: u64) -> Part
 }
 
 // Byte k of a row: black before the field's first pixel and past its last.
+#[tactic(auto, unfolding(crate::specs::Part::byte_in))]
 fn byte_in(picture: &[u8], p: Part, k: u64) -> u8
     requires { p.begin + (p.above + k) < 2 ^ 64 }
     ensures byte { result ≡ byte_in picture.now p k }
@@ -85,10 +86,8 @@ fn lay(room: &mut [u8], picture: &[u8], p: Part, count: u64)
     requires count_bound { p.begin + (p.above + count) < 2 ^ 64 }
     ensures bytes { room.new ≡ run (byte_in picture.now p) 0 count ++ drop count room.old }
 {
-    let mut k: u64 = 0;
-    while k < count {
-        room[k as usize] = byte_in(picture, p, k);
-        k += 1;
+    for (k, byte) in room[..count as usize].iter_mut().enumerate() {
+        *byte = byte_in(picture, p, k as u64);
     }
 }
 
@@ -98,8 +97,7 @@ pub fn put_row(room: &mut [u8], picture: &[u8], w: Weave, row: u64) -> usize
     ensures bytes { room.new ≡ sets room.old 0 (row_put w picture.now row (length room.old)) }
     ensures within { KeptRoom room.old room.new result }
 {
-    let row_fits = is_row(w, row, room.len() as u64);
-    if row_fits {
+    if is_row(w, row, room.len() as u64) {
         let count = 3 * w.width;
         let p = part_of(w, row);
         lay(room, picture, p, count);

@@ -5,39 +5,50 @@ use mathlib.Core.List.{List, [], ◌∷◌, ◌++◌}
 use mathlib.Core.Path.{◌≡◌, refl, sym, ap, ◌∙◌}
 use native.Mathlib.Omega.{arith}
 use lib.ListN.{length, get_or, take, drop, length-append, length-drop, drop_of_length-le}
-use lib.Seq.{drop-length, take-append_seam, take-nil}
-use Rattle.base.proofs.Lists.{left_from}
-use Rattle.words.specs.Words.{blank, past_run, skip, front, past, begins}
+use lib.Seq.{take-append_seam}
+use Rattle.std.proofs.lemmas.List.{drop_more}
+use Rattle.words.specs.Words.{blank, past_run, front, past, begins}
+
+-- a byte that is a blank where blanks are passed, or none where they are not
+passed : (b : Bool) → cond b b (not b) ≡ true
+passed true = refl
+passed false = refl
+
+stopped : (b t : Bool) → (t ≡ b → ⊥) → cond b t (not t) ≡ false
+stopped true true h = absurd (h refl)
+stopped true false h = refl
+stopped false true h = refl
+stopped false false h = absurd (h refl)
 
 module _ (line : List ℕ) (i : ℕ) where
   -- a byte of the run is passed, any other is its end
   module _ (blanks : Bool) where
-    pub run_more : i < length line → cond blanks (blank (get_or line i 0)) (not (blank (get_or line i 0))) ≡ true → past_run blanks (drop (i + 1) line) ≡ past_run blanks (drop i line)
+    pub run_more : i < length line → blank (get_or line i 0) ≡ blanks → past_run blanks (drop (i + 1) line) ≡ past_run blanks (drop i line)
     unfolding past_run
-    run_more h e = rw (left_from line i h) (simp e)
+    run_more h e = rw (drop_more line i 0 h, e, passed blanks)
 
-    pub run_stop : i < length line → cond blanks (blank (get_or line i 0)) (not (blank (get_or line i 0))) ≡ false → drop i line ≡ past_run blanks (drop i line)
+    pub run_stop : i < length line → (blank (get_or line i 0) ≡ blanks → ⊥) → past_run blanks (drop i line) ≡ drop i line
     unfolding past_run
-    run_stop h e = rw (left_from line i h) (simp e)
+    run_stop h e = rw (drop_more line i 0 h, stopped blanks (blank (get_or line i 0)) e)
 
-    pub run_end : length line ≤ i → drop i line ≡ past_run blanks (drop i line)
+    pub run_end : length line ≤ i → past_run blanks (drop i line) ≡ drop i line
     unfolding past_run
     run_end h = rw (drop_of_length-le line h)
 
-  -- a turn of the count
-  pub count_turn : (count total : ℕ) (inside over : Bool) (more : ℕ) → i < length line → over ≡ blank (get_or line i 0) → more ≡ cond (inside || over) 0 1 → count + begins inside (drop i line) ≡ total → count + more + begins (not over) (drop (i + 1) line) ≡ total
-  unfolding begins
-  count_turn count total inside over more h eo em e =
-      let step : begins inside (drop i line) ≡ more + begins (not over) (drop (i + 1) line) = rw (left_from line i h, em, eo) refl in
-      omega (arith, step)
+  -- a word begins at a byte, or not
+  module _ (inside : Bool) where
+    pub begins_next : i < length line → begins inside (drop i line) ≡ cond (inside || blank (get_or line i 0)) 0 1 + begins (not (blank (get_or line i 0))) (drop (i + 1) line)
+    unfolding begins
+    begins_next h = rw (drop_more line i 0 h)
 
-  pub count_end : (count total : ℕ) (inside : Bool) → length line ≤ i → count + begins inside (drop i line) ≡ total → count ≡ total
-  unfolding begins
-  count_end count total inside h e = let none : begins inside (drop i line) ≡ 0 = rw (drop_of_length-le line h) refl in omega arith
+    pub begins_end : length line ≤ i → begins inside (drop i line) ≡ 0
+    unfolding begins
+    begins_end h = rw (drop_of_length-le line h)
 
-pub one_more : (t : Bool) (more : ℕ) → more ≡ cond t 0 1 → more ≤ 1
-one_more true more e = omega arith
-one_more false more e = omega arith
+-- for `grind`: a run over a line, and a count
+pub ruleset runs = (run_more, run_stop, run_end)
+
+pub ruleset count = (begins_next, begins_end)
 
 -- a list is its first word and what is left past it
 parts : (list : List ℕ) → front list ++ past list ≡ list
@@ -56,21 +67,3 @@ front_is line from to h k e =
     let left : length (past (drop from line)) ≡ length line - to = ap length (sym e) ∙ length-drop to line in
     let size : to - from ≡ length (front (drop from line)) = omega arith in
     ap (λ (l : List ℕ). take (to - from) l) (sym (parts (drop from line))) ∙ rw size (take-append_seam (front (drop from line)) (past (drop from line)))
-
--- the next word, from the place past the blanks
-module _ (line : List ℕ) (at from to : ℕ) (h : from ≤ to) (k : to ≤ length line) (es : drop from line ≡ skip (drop at line)) (ep : drop to line ≡ past (drop from line)) where
-  pub word_bytes : take (to - from) (drop from line) ≡ front (skip (drop at line))
-  word_bytes = front_is line from to h k ep ∙ ap front es
-
-  pub word_left : drop to line ≡ past (skip (drop at line))
-  word_left = ep ∙ ap past es
-
--- past the line's end there is none
-module _ (line : List ℕ) (at : ℕ) (h : length line ≤ at) where
-  pub none_bytes : take (length line - length line) (drop (length line) line) ≡ front (skip (drop at line))
-  unfolding front past_run
-  none_bytes = rw (drop_of_length-le line h, drop-length line) (take-nil (length line - length line))
-
-  pub none_left : drop (length line) line ≡ past (skip (drop at line))
-  unfolding past_run
-  none_left = rw (drop_of_length-le line h) (drop-length line)

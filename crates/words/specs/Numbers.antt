@@ -1,7 +1,7 @@
 -- Numbers (docs/SCRIPT.md): decimal, or hexadecimal after `#`, in either case of letters, from 0 to 4,294,967,295. Assumes nothing.
-use Rattle.std.specs.Prelude.{ℕ, ◌+◌, ◌*◌, ◌-◌, Bool, true, false, cond, ◌&&◌, ◌||◌, List, [], ◌∷◌, ltb, leb, eqb, length, get_or, drop}
-use Rattle.words.specs.Faults.{not_a_number, number_too_large}
-use Rattle.words.specs.declared.number.Number.{Number}
+use Rattle.std.specs.Prelude.{ℕ, ◌+◌, ◌*◌, ◌-◌, Bool, true, false, cond, ◌&&◌, ◌||◌, List, [], ◌∷◌, ltb, leb, eqb, length, get_or, drop, Result, Ok, Err}
+use Rattle.words.specs.declared.number.NumberFault.{NumberFault}
+use Rattle.words.specs.declared.number.NumberFault.TheVariants.{NotANumber, TooLarge}
 
 -- what a byte counts as a digit, in either case of letters; 16 for a byte that is none
 abbrev pub digit_of : ℕ → ℕ
@@ -29,16 +29,14 @@ abbrev pub largest : ℕ
 largest = 0xFFFFFFFF
 
 -- `not a number` before `number too large`; a fault leaves no value
-abbrev pub number_with : Bool → ℕ → Number
+abbrev pub number_with : Bool → ℕ → Result ℕ NumberFault
 number_with bad value =
-    cond bad
-    (record { fault = not_a_number; value = 0 })
-    (cond (ltb largest value) (record { fault = number_too_large; value = 0 }) (record { fault = 0; value = value }))
+    cond bad (Err NotANumber) (cond (ltb largest value) (Err TooLarge) (Ok value))
 
 -- no digit at all is no number either
-unfoldable pub digits_number : Bool → List ℕ → Number
+unfoldable pub digits_number : Bool → List ℕ → Result ℕ NumberFault
 digits_number hexadecimal text = number_with (eqb (length text) 0 || strange hexadecimal text) (value_from hexadecimal 0 text)
 
 -- a word as a number: hexadecimal after `#`
-unfoldable pub number_of : List ℕ → Number
+unfoldable pub number_of : List ℕ → Result ℕ NumberFault
 number_of word = cond (eqb (get_or word 0 0) 35) (digits_number true (drop 1 word)) (digits_number false word)

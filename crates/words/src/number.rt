@@ -1,78 +1,69 @@
 // Numbers: decimal, or hexadecimal after `#`, in either case of letters.
-ghost use Rattle.std.specs.Prelude.{◌≡◌, Bool, cond, ◌+◌, ◌*◌, ◌^◌, ◌≤◌, ◌<◌, ltb};
-ghost use Rattle.words.specs.Numbers.{digit_of, base_of, largest, digits_number, number_of};
+ghost use Rattle.std.specs.Prelude.{◌≡◌, cond, ◌+◌, ◌*◌, ◌≤◌, leb, ltb, Ok, Err};
+ghost use Rattle.std.specs.List.{list_any};
+ghost use Rattle.words.specs.declared.number.NumberFault.TheVariants.{TooLarge};
+ghost use Rattle.words.specs.Numbers.{digit_of, largest, digits_number, number_of};
 
-// A fault or 0, and the value; a fault leaves no value.
-#[derive(Clone, Copy)]
-pub struct Number {
-    pub fault: u32,
-    pub value: u32,
+// Why a word is no number from 0 to 4,294,967,295.
+#[derive(Clone, Copy, PartialEq, Eq)]
+pub enum NumberFault {
+    NotANumber,
+    TooLarge,
 }
 
 // What a byte counts as a digit; 16 for a byte that is none.
+// As it is: the definition digit_of says 16 of it, which is no digit of either base.
 fn digit_of(byte: u8) -> u32
     ensures digit { result ≡ digit_of byte }
-    ensures bound { result ≤ 255 }
 {
-    let code = base::wide(byte);
-    let figure = (48 <= code) & (code <= 57);
-    let capital = (65 <= code) & (code <= 70);
-    let small = (97 <= code) & (code <= 102);
-    let low = base::first(small, base::less(code, 87), 16);
-    let high = base::first(capital, base::less(code, 55), low);
-    base::first(figure, base::less(code, 48), high)
+    match byte {
+        b'0'..=b'9' => u32::from(byte - b'0'),
+        b'A'..=b'F' => u32::from(byte - b'A') + 10,
+        b'a'..=b'f' => u32::from(byte - b'a') + 10,
+        _ => 16,
+    }
 }
 
-// A value with one digit more; one that is too large already stays.
-fn grown(value: u64, hexadecimal: bool, digit: u32) -> u64
-    requires { (value < 2 ^ 40) × (digit ≤ 255) }
-    ensures value { result ≡ cond (ltb largest value) value (value * base_of hexadecimal + digit) }
-    ensures bound { result < 2 ^ 40 }
+// Some byte is no digit of a base.
+fn is_strange(text: &[u8], base: u32) -> bool
+    ensures test { result ≡ list_any (λ byte. leb base (digit_of byte)) text.now }
 {
-    if 0xFFFFFFFF < value {
-        return value;
-    }
-    if hexadecimal {
-        return value * 16 + digit as u64;
-    }
-    value * 10 + digit as u64
+    text.iter().any(|byte| base <= digit_of(*byte))
+}
+
+// A value with one digit more, where it is not too large.
+fn grown(value: u32, base: u32, digit: u32) -> Result<u32, NumberFault>
+    ensures more { result ≡ cond (ltb largest (value * base + digit)) (Err TooLarge) (Ok (value * base + digit)) }
+{
+    value
+        .checked_mul(base)
+        .and_then(|tens| tens.checked_add(digit))
+        .ok_or(NumberFault::TooLarge)
 }
 
 // What digits give.
-fn digits_number(text: &[u8], hexadecimal: bool) -> Number
+#[tactic(auto, unfolding(crate::specs::Numbers::digits_number), using(crate::proofs::number::Digits::digits))]
+fn digits_number(text: &[u8], hexadecimal: bool) -> Result<u32, NumberFault>
     ensures number { result ≡ digits_number hexadecimal text.now }
 {
-    let base = base::first(hexadecimal, 16, 10);
-    let mut value: u64 = 0;
-    let mut strange = false;
-    let mut i: usize = 0;
-    while i < text.len() {
-        let digit = digit_of(text[i]);
-        strange = strange | (base <= digit);
-        value = grown(value, hexadecimal, digit);
-        i += 1;
+    let base = base::choose(hexadecimal, 16u32, 10);
+    if text.is_empty() || is_strange(text, base) {
+        return Err(NumberFault::NotANumber);
     }
-    if strange | (text.len() == 0) {
-        return Number { fault: 4, value: 0 };
+    let mut value: u32 = 0;
+    for byte in text {
+        value = grown(value, base, digit_of(*byte))?;
     }
-    if 0xFFFFFFFF < value {
-        return Number { fault: 5, value: 0 };
-    }
-    Number {
-        fault: 0,
-        value: value as u32,
-    }
+    Ok(value)
 }
 
 // A word as a number.
-pub fn number_of(word: &[u8]) -> Number
+#[tactic(auto, unfolding(crate::specs::Numbers::number_of))]
+pub fn number_of(word: &[u8]) -> Result<u32, NumberFault>
     ensures number { result ≡ number_of word.now }
 {
-    if word.len() == 0 {
-        return digits_number(word, false);
+    match word {
+        [b'#', digits @ ..] => digits_number(digits, true),
+        _ => digits_number(word, false),
     }
-    if word[0] == b'#' {
-        return digits_number(&word[1..], true);
-    }
-    digits_number(word, false)
 }

@@ -2,14 +2,16 @@
 ghost use Rattle.std.specs.Prelude.{◌≡◌, ◌≤◌, ◌<◌, length};
 ghost use Rattle.words.specs.Slash.{blank_at, blank_before, alone, slash_at};
 
+use crate::is_blank;
+
 // A blank stands at a place, or the line has ended.
 fn is_blank_at(line: &[u8], i: usize) -> bool
     ensures test { result ≡ blank_at line.now i }
 {
-    if line.len() <= i {
-        return true;
+    match line.get(i) {
+        Some(byte) => is_blank(*byte),
+        None => true,
     }
-    crate::is_blank(line[i])
 }
 
 // A blank stands before a place, or the line begins there.
@@ -17,10 +19,7 @@ fn is_blank_before(line: &[u8], i: usize) -> bool
     requires { i ≤ length line.now }
     ensures test { result ≡ blank_before line.now i }
 {
-    if i == 0 {
-        return true;
-    }
-    crate::is_blank(line[i - 1])
+    i == 0 || is_blank(line[i - 1])
 }
 
 // Byte i is a `/` that is a word by itself.
@@ -28,24 +27,20 @@ fn is_alone(line: &[u8], i: usize) -> bool
     requires { i < length line.now }
     ensures test { result ≡ alone line.now i }
 {
-    let slash = line[i] == b'/';
-    let begins = is_blank_before(line, i);
-    let ends = is_blank_at(line, i + 1);
-    slash & begins & ends
+    line[i] == b'/' && is_blank_before(line, i) && is_blank_at(line, i + 1)
 }
 
 // The place of the first `/` that is a word by itself, or the line's end.
+// As it is: the definition slash_at, and the commands' definitions over it, give the line's end where there is none.
+#[tactic(auto, using(crate::proofs::slash::Cases::slash))]
 pub fn slash_at(line: &[u8]) -> usize
     ensures place { result ≡ slash_at line.now }
     ensures within { result ≤ length line.now }
 {
-    let mut i: usize = 0;
-    while i < line.len() {
-        let found = is_alone(line, i);
-        if found {
+    for i in 0..line.len() {
+        if is_alone(line, i) {
             return i;
         }
-        i += 1;
     }
-    i
+    line.len()
 }

@@ -1,5 +1,4 @@
 -- `audiogram::draw` meets its contract: one byte of the picture more at each turn, and behind it the memory as it was. Assumes nothing.
-use Prim.Native.Nat.{◌≤◌, ◌-◌}
 use mathlib.Core.Path.{◌≡◌}
 use mathlib.Core.List.{◌++◌}
 use lib.ListN.{drop}
@@ -8,7 +7,4 @@ use Rattle.audiogram.specs.Picture.{byte_at}
 use Rattle.audiogram.proofs.draw.Given as goal
 
 abbrev pub invariant-loop-i : goal.invariant-loop-i
-invariant-loop-i l = (l.i ≤ l.end) × (l.memory ≡ run (byte_at l.interlaced l.right l.left) 0 l.i ++ drop l.i l.initial.memory)
-
-abbrev pub decreases-loop-i : goal.decreases-loop-i
-decreases-loop-i l = l.end - l.i
+invariant-loop-i l = l.byte-items ≡ run (byte_at l.interlaced l.chart.right l.chart.left) 0 l.i ++ drop l.i l.initial.byte-items

@@ -1,10 +1,7 @@
--- `beside::run` is safe and ends: each turn is one call more, and a tick keeps the one condition of both records.
-use Prim.Native.Nat.{◌≤◌, ◌-◌}
+-- `beside::run` is safe and ends: at most one of either count at each turn, and a tick keeps the one condition of both records.
+use Prim.Native.Nat.{◌≤◌}
 use Rattle.generator.specs.Sound.{Sound}
 use Rattle.beside.proofs.run.Given as goal
 
-abbrev pub invariant-loop-calls : goal.invariant-loop-calls
-invariant-loop-calls g l = ((l.calls ≤ 108) × ((l.accepted ≤ l.calls) × (l.unlike ≤ l.calls))) × ((Sound l.r l.lent) × (Sound l.r l.kept))
-
-abbrev pub decreases-loop-calls : goal.decreases-loop-calls
-decreases-loop-calls g l = 108 - l.calls
+abbrev pub invariant-loop : goal.invariant-loop
+invariant-loop g l = record { accepted : l.accepted ≤ l.counter; unlike : l.unlike ≤ l.counter; lent : Sound l.r l.lent; kept : Sound l.r l.kept }

@@ -1,9 +1,7 @@
 -- `calls::size_of` meets its contract: Display and VDisplay are registers of 24 bits, and a lead is no more than Display.
-use Prim.Native.Nat.{ℕ, ◌+◌, ◌*◌, ◌/◌, ◌≤◌}
+use Prim.Native.Nat.{◌/◌, ◌≤◌}
 use mathlib.Core.Bool.{Bool, true, false, cond}
 use mathlib.Core.Path.{◌≡◌, sym, ap, subst, ◌∙◌}
-use Rattle.control.specs.Control.{interlaced}
-use Rattle.calls.specs.declared.Size.{Size}
 use native.Mathlib.Omega.{arith}
 use Rattle.units.specs.Parameters.{screen_of, in_field, displayed_lines}
 use Rattle.units.specs.declared.Screen.{Screen}
@@ -30,11 +28,6 @@ lead_most : (s : Screen) → lead s ≤ s.display.0
 unfolding lead
 lead_most s = omega arith
 
--- what the code finds is the size
-by : (r : Registers) (s : Screen) (b : Bool) (lines height half before : ℕ) → s ≡ screen r → b ≡ interlaced r.control → lines ≡ displayed_lines s → height ≡ cond b (lines + 1) lines → before ≡ lead (in_field true (screen r)) → half ≡ cond b (4 * before) 0 →
-    ◌≡◌ {A = Size} (record { width = 4 * s.display.0; height = height; half = half }) (record { width = 4 * (screen r).display.0; height = cond (interlaced r.control) (displayed_lines (screen r) + 1) (displayed_lines (screen r)); half = cond (interlaced r.control) (4 * lead (in_field true (screen r))) 0 })
-by r s b lines height half before es eb el eh ea ef = rw (eh, ef, ea, el, eb, es)
-
 pub overflow_mul-result : goal.overflow_mul-result
 overflow_mul-result c =
     let made : c.screen_of-s.result ≡ screen c.args.m.regs = c.screen_of-s.ensures.screen ∙ ap (screen_of c.args.m.regs.params) c.is_interlaced-interlaced.ensures.bit in
@@ -51,8 +44,3 @@ overflow_mul-shown c =
     let made : c.screen_of-s.result ≡ screen c.args.m.regs = c.screen_of-s.ensures.screen ∙ ap (screen_of c.args.m.regs.params) c.is_interlaced-interlaced.ensures.bit in
     let display : c.screen_of-s.result.display.0 ≤ 0xFFFFFF = subst (λ (s : Screen). s.display.0 ≤ 0xFFFFFF) (sym made) (display_in c.args.m.regs c.requires.widths) in
     omega (arith, c.shown_in-shown.ensures.lead, lead_most (in_field true (screen_of c.args.m.regs.params c.is_interlaced-interlaced.result)), subst (λ (s : Screen). s.display.0 ≤ 0xFFFFFF) c.screen_of-s.ensures.screen (display))
-
-pub returns : goal.returns
-returns c =
-    let made : c.screen_of-s.result ≡ screen c.args.m.regs = c.screen_of-s.ensures.screen ∙ ap (screen_of c.args.m.regs.params) c.is_interlaced-interlaced.ensures.bit in
-    record { size = by c.args.m.regs _ _ _ _ _ _ (made) c.is_interlaced-interlaced.ensures.bit c.displayed_lines-lines.ensures.lines c.choose.ensures.chosen (c.shown_in-shown.ensures.lead ∙ ap (λ (b : Bool). lead (in_field true (screen_of c.args.m.regs.params b))) c.is_interlaced-interlaced.ensures.bit) c.choose-2.ensures.chosen }

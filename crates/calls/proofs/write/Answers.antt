@@ -5,5 +5,5 @@ use Rattle.machine.specs.Conditions.{SoundMachine}
 use Rattle.machine.proofs.Soundness.{write_sound}
 use Rattle.calls.proofs.write.Goals as goal
 
-pub returns : goal.returns
-returns c = record { written = c.write.ensures.written; sound = subst (λ (w : Written). SoundMachine w.machine) (sym c.write.ensures.written) (write_sound _ _ _ c.requires) }
+pub returns-clause-sound : goal.returns-clause-sound
+returns-clause-sound c = subst (λ (w : Written). SoundMachine w.machine) (sym c.write.ensures.written) (write_sound _ _ _ c.requires)

@@ -2,17 +2,14 @@
 use Rattle.cursor.proofs.Cases.{code_under, code_beside, code_above}
 use Rattle.cursor.proofs.cursor_code.Goals as goal
 
-pub returns-then-column-lt64 : goal.returns-then-column-lt64
-returns-then-column-lt64 c =
-    let rest_of_it = code_under _ _ _ _ _ _ _ c.number-row.ensures.number c.number-column.ensures.number c.if-row-lt64.true c.if-column-lt64.true c.code_at.ensures.code in
-    record { code = rest_of_it.0; bound = rest_of_it.1 }
+pub returns-in-Some-Some-clause-code : goal.returns-in-Some-Some-clause-code
+returns-in-Some-Some-clause-code c =
+    let row = rw c.in-Some-Some.is-0 at c.number-row.ensures.number in
+    let column = rw c.in-Some-Some.is-1 at c.number-column.ensures.number in
+    code_under _ _ _ _ _ _ _ row column c.code_at.ensures.code
 
-pub returns-else-column-lt64 : goal.returns-else-column-lt64
-returns-else-column-lt64 c =
-    let rest_of_it = code_beside _ _ _ _ _ c.number-column.ensures.number c.if-column-lt64.false in
-    record { code = rest_of_it.0; bound = rest_of_it.1 }
+pub returns-in_default-clause-code : goal.returns-in_default-clause-code
+returns-in_default-clause-code c = code_beside _ _ _ _ (rw c.in_default.is-1 at c.number-column.ensures.number)
 
-pub returns-else-row-lt64 : goal.returns-else-row-lt64
-returns-else-row-lt64 c =
-    let rest_of_it = code_above _ _ _ _ _ c.number-row.ensures.number c.if-row-lt64.false in
-    record { code = rest_of_it.0; bound = rest_of_it.1 }
+pub returns-in_default-2-clause-code : goal.returns-in_default-2-clause-code
+returns-in_default-2-clause-code c = code_above _ _ _ _ (rw c.in_default.is-0 at c.number-row.ensures.number)

@@ -5,20 +5,20 @@ use Rattle.form.proofs.labels_at.Goals as goal
 
 pub returns-then-p-ge540 : goal.returns-then-p-ge540
 returns-then-p-ge540 c =
-    let rest_of_it = part _ _ _ 540 65536 0 65536 tt (omega arith) (omega arith) (omega arith) (omega arith) (omega arith) (omega arith) in
-    record { bound = rest_of_it.0; before = rest_of_it.1.0; after = rest_of_it.1.1 }
+    let labels = part _ _ _ 540 65536 0 65536 tt (omega arith) (omega arith) (omega arith) (omega arith) (omega arith) (omega arith) in
+    record { bound = labels.0; before = labels.1.0; after = labels.1.1 }
 
 pub returns-then-p-lt36 : goal.returns-then-p-lt36
 returns-then-p-lt36 c =
-    let rest_of_it = part _ _ _ 0 540 0 36 tt (omega arith) (omega arith) (omega arith) (omega arith) (omega arith) (omega arith) in
-    record { bound = rest_of_it.0; before = rest_of_it.1.0; after = rest_of_it.1.1 }
+    let labels = part _ _ _ 0 540 0 36 tt (omega arith) (omega arith) (omega arith) (omega arith) (omega arith) (omega arith) in
+    record { bound = labels.0; before = labels.1.0; after = labels.1.1 }
 
 pub returns-then-p-lt80 : goal.returns-then-p-lt80
 returns-then-p-lt80 c =
-    let rest_of_it = part _ _ _ 0 80 36 65536 tt (omega arith) (omega arith) (omega arith) (omega arith) (omega arith) (omega arith) in
-    record { bound = rest_of_it.0; before = rest_of_it.1.0; after = rest_of_it.1.1 }
+    let labels = part _ _ _ 0 80 36 65536 tt (omega arith) (omega arith) (omega arith) (omega arith) (omega arith) (omega arith) in
+    record { bound = labels.0; before = labels.1.0; after = labels.1.1 }
 
 pub returns : goal.returns
 returns c =
-    let rest_of_it = part _ _ _ 80 540 36 65536 tt (omega arith) (omega arith) (omega arith) (omega arith) (omega arith) (omega arith) in
-    record { bound = rest_of_it.0; before = rest_of_it.1.0; after = rest_of_it.1.1 }
+    let labels = part _ _ _ 80 540 36 65536 tt (omega arith) (omega arith) (omega arith) (omega arith) (omega arith) (omega arith) in
+    record { bound = labels.0; before = labels.1.0; after = labels.1.1 }

@@ -1,17 +1,13 @@
--- `form::shows` meets its contract: one label more at each turn. Assumes nothing.
-use native.Mathlib.Omega.{arith}
-use Rattle.form.proofs.Cases.{form_none, form_more, form_whole}
+-- `form::shows` meets its contract. Assumes nothing.
+use Rattle.std.proofs.Common.{rules, tests}
+use Rattle.form.specs.Form.{labelled}
+use Rattle.form.proofs.Cases.{form_made}
+use Rattle.marks.proofs.Any.{any_from}
 use Rattle.form.proofs.shows.Goals as goal
-
-pub loop-k-init : goal.loop-k-init
-loop-k-init c =
-    let asked = c.labels_at-asked.ensures in
-    (asked.bound.0, form_none _ _ _ c.is_grid-covered.ensures.test asked.before)
-
-pub loop-k-preserved : goal.loop-k-preserved
-loop-k-preserved c = (omega arith, form_more _ _ _ _ c.loop-k.invariant.1 c.is_label-covered.ensures.test)
 
 pub returns : goal.returns
 returns c =
-    let l = c.loop-k in
-    record { test = form_whole _ l.k _ l.invariant.0 (λ j h i. c.labels_at-asked.ensures.after j (omega arith) i) l.invariant.1 }
+    let p = c.args.p in
+    let asked = c.labels_at in
+    let drawn = any_from (λ k. labelled p k) asked.result.start asked.result.end _ _ _ c.any.ensures.ran (λ x b q k. search (rules, tests)) in
+    record { test = form_made p _ _ _ _ asked.ensures.bound.0 asked.ensures.bound.1 asked.ensures.before asked.ensures.after c.is_grid.ensures.test drawn }

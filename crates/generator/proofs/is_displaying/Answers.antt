@@ -28,9 +28,6 @@ dark : (r : Registers) (g : Generator) → running r.control ≡ false → false
 unfolding displaying
 dark r g off = rw off
 
-pub overflow_cast-g : goal.overflow_cast-g
-overflow_cast-g c = omega (arith, half_in c.args.r c.args.g c.requires (sym c.is_running-runs.ensures.bit ∙ c.if-runs.true))
-
 pub returns-then-runs : goal.returns-then-runs
 returns-then-runs c = record { test = lit c.args.r c.args.g _ (sym c.is_running-runs.ensures.bit ∙ c.if-runs.true) c.is_vdisplay.ensures.test }
 

@@ -13,7 +13,7 @@ use Rattle.screen.proofs.limits.Laws.{narrow, bounded_in, accepted_in}
 use Rattle.request.specs.Request.{asking, requested}
 use Rattle.request.specs.declared.Known.{Known}
 use Rattle.registers.specs.declared.Registers.{Registers}
-use Rattle.lines.specs.Lines.{opens, tick_number, field_visible, moment_of}
+use Rattle.lines.specs.Lines.{tick_number, field_visible, moment_of}
 use Rattle.lines.specs.declared.Moment.{Moment}
 use Rattle.generator.specs.Rows.{screen, field_at, visible_at, shows, top_used, taken, transfer_at, held_address, place, asks, leads, request_at}
 use Rattle.generator.specs.Sound.{Inside, Sound}

@@ -4,7 +4,7 @@ use mathlib.Core.List.{List, [], ◌∷◌}
 use mathlib.Core.Path.{◌≡◌, refl, sym, ◌∙◌}
 use native.Mathlib.Nat.{zero-add}
 use native.Mathlib.Omega.{arith}
-use lib.Dec.{eqb, leb, eqb→eq, leb→le}
+use lib.Dec.{eqb, eqb→eq}
 use lib.ListN.{get_or}
 use Rattle.base.specs.Count.{run}
 use Rattle.base.proofs.Table.{entry}
@@ -16,11 +16,8 @@ use Rattle.machine.specs.Words.{checksum_words}
 abbrev pub bytes : List ℕ
 bytes = 1 ∷ 0x100 ∷ 0x10000 ∷ []
 
-pub byte_value : (k : ℕ) → k < 3 → get_or bytes k 0 ≡ 256 ^ k
+byte_value : (k : ℕ) → k < 3 → get_or bytes k 0 ≡ 256 ^ k
 byte_value k h = eqb→eq _ _ (entry (λ n value. eqb value (256 ^ n)) bytes tt k h)
-
-pub byte_positive : (k : ℕ) → k < 3 → 0 < get_or bytes k 0
-byte_positive k h = leb→le _ _ (entry (λ n value. leb 1 value) bytes tt k h)
 
 pub word_within : (k : ℕ) (sums : Sums) → k < 3 → sums.red / get_or bytes k 0 % 0x100 * 0x10000 + sums.green / get_or bytes k 0 % 0x100 * 0x100 + sums.blue / get_or bytes k 0 % 0x100 ≡ get_or (checksum_words sums) k 0
 unfolding checksum_words

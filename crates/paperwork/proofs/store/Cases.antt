@@ -1,15 +1,24 @@
--- A sheet written into more bytes than a room has is written into all of it. Assumes nothing.
-use Prim.Native.Nat.{ℕ, ◌≤◌}
-use mathlib.Core.List.{List, append-nil}
-use mathlib.Core.Path.{◌≡◌, sym, ap, ◌∙◌}
-use lib.ListN.{length, take, drop_of_length-le}
-use lib.Seq.{take_all}
-use Rattle.sheet.specs.Writer.{write_refusal, room_written}
-use Rattle.paperwork.specs.Store.{written_into}
+-- The values of a sheet, copied. Assumes nothing.
+use Prim.Native.Nat.{ℕ, zero, suc, ◌+◌, ◌≤◌, ◌<◌}
+use mathlib.Core.List.{List, [], ◌∷◌}
+use mathlib.Core.Path.{◌≡◌, refl, ◌∙◌}
+use native.Mathlib.Omega.{arith}
+use lib.ListN.{length, get_or, take, drop, length-take, length-drop}
+use Rattle.std.proofs.Common.{drop-cons}
+use Rattle.room.specs.Room.{laid}
+use Rattle.paperwork.specs.Store.{sheet_values}
 
-module _ (values room : List ℕ) (count : ℕ) (h : length room ≤ count) where
-  pub into_refusal : (r : ℕ) → r ≡ write_refusal values room → r ≡ write_refusal values (take count room)
-  into_refusal r e = e ∙ ap (write_refusal values) (sym (take_all count room h))
+-- n numbers from number k on
+abbrev row : ℕ → ℕ → List ℕ → List ℕ
+row zero k numbers = []
+row (suc n) k numbers = get_or numbers k 0 ∷ row n (suc k) numbers
 
-  pub into_whole : (after : List ℕ) → after ≡ room_written values room → after ≡ written_into values room count
-  into_whole after e = rw (take_all count room h, drop_of_length-le room h) (e ∙ sym (append-nil (room_written values room)))
+row_is : (n k : ℕ) (numbers : List ℕ) → k + n ≤ length numbers → take n (drop k numbers) ≡ row n k numbers
+row_is zero k numbers h = refl
+row_is (suc n) k numbers h =
+    let l : k < length numbers = omega arith in
+    rw (drop-cons numbers k 0, row_is n (suc k) numbers (omega arith)) refl
+
+pub fourteen : (numbers now : List ℕ) → now ≡ take 14 (drop 1 numbers) → length now ≡ 14 → now ≡ sheet_values numbers
+unfolding laid
+fourteen numbers now e h = e ∙ row_is 14 1 numbers (omega (arith, rw e at h, length-take 14 (drop 1 numbers), length-drop 1 numbers))

@@ -1,16 +1,10 @@
--- `patient::frequency_of` meets its contract: one frequency more at each turn. Assumes nothing.
-use mathlib.Core.Path.{◌≡◌}
-use native.Mathlib.Omega.{arith}
-use Rattle.patient.proofs.Cases.{found_none, found_next}
+-- `patient::frequency_of` meets its contract. Assumes nothing.
+use Rattle.std.proofs.Common.{rules, tests}
+use Rattle.std.specs.Prelude.{◌==◌}
+use Rattle.std.proofs.lemmas.Iterator.{YieldsList-from_slice}
+use Rattle.std.proofs.lemmas.Iterator.Search.{position_from_yields_List}
+use Rattle.patient.specs.declared.TheConstants.{FREQUENCIES}
 use Rattle.patient.proofs.frequency_of.Goals as goal
 
-pub loop-k-init : goal.loop-k-init
-loop-k-init c = (omega arith, found_none _)
-
-pub loop-k-preserved : goal.loop-k-preserved
-loop-k-preserved c = (omega arith, found_next _ _ _ _ c.loop-k.invariant.1 c.first-found.ensures.chosen)
-
-pub returns : goal.returns
-returns c =
-    let e : c.loop-k.k ≡ 11 = omega arith in
-    record { place = rw e at c.loop-k.invariant.1 }
+pub returns-in-Ok-clause-place : goal.returns-in-Ok-clause-place
+returns-in-Ok-clause-place c = rw c.in-Ok.is (position_from_yields_List (λ f. f == c.in-Ok.hertz) _ _ _ c.position.ensures.ran (YieldsList-from_slice FREQUENCIES cc) (λ x b q k. search (rules, tests)))

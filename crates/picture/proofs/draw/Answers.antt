@@ -5,14 +5,14 @@ use Rattle.picture.proofs.draw.Goals as goal
 pub draw_frame-next-requires : goal.draw_frame-next-requires
 draw_frame-next-requires c =
     let args = c.args in
-    record { drawable = drawable_free args.r args.memory.now args.g args.buffer.now _ c.refusal_of-refusal.ensures.refusal c.requires c.if-refusal-eq0.true; buffer_len = fits_free args.r args.memory.now args.g args.buffer.now _ c.refusal_of-refusal.ensures.refusal c.requires c.if-refusal-eq0.true }
+    record { drawable = drawable_free args.r args.memory.now args.g args.buffer.now _ c.refusal_of-refusal.ensures.refusal c.requires c.if-refusal-eq0.true; size = fits_free args.r args.memory.now args.g args.buffer.now _ c.refusal_of-refusal.ensures.refusal c.requires c.if-refusal-eq0.true }
 
 pub returns-then-refusal-eq0 : goal.returns-then-refusal-eq0
 returns-then-refusal-eq0 c =
-    let rest_of_it = drawn_whole c.args.r c.args.memory.now c.args.g c.args.buffer.now _ c.refusal_of-refusal.ensures.refusal c.requires c.if-refusal-eq0.true _ _ c.draw_frame-next.ensures.end c.draw_frame-next.ensures.bytes in
-    record { whole = rest_of_it.0; bytes = rest_of_it.1 }
+    let whole = drawn_whole c.args.r c.args.memory.now c.args.g c.args.buffer.now _ c.refusal_of-refusal.ensures.refusal c.requires c.if-refusal-eq0.true _ _ c.draw_frame-next.ensures.end c.draw_frame-next.ensures.bytes in
+    record { whole = whole.0; bytes = whole.1 }
 
 pub returns : goal.returns
 returns c =
-    let rest_of_it = refused_whole c.args.r c.args.memory.now c.args.g c.args.buffer.now _ c.refusal_of-refusal.ensures.refusal c.if-refusal-eq0.false in
-    record { whole = rest_of_it.0; bytes = rest_of_it.1 }
+    let whole = refused_whole c.args.r c.args.memory.now c.args.g c.args.buffer.now _ c.refusal_of-refusal.ensures.refusal c.if-refusal-eq0.false in
+    record { whole = whole.0; bytes = whole.1 }

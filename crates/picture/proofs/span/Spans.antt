@@ -1,11 +1,12 @@
 -- Painting one stretch of colours after another is painting both. Assumes nothing.
-use Prim.Native.Nat.{ℕ, zero, suc, ◌+◌, ◌-◌, ◌*◌, ◌≤◌, ◌<◌}
-use mathlib.Core.List.{List, [], ◌∷◌, ◌++◌, append-nil}
+use Prim.Native.Nat.{ℕ, suc, ◌+◌, ◌-◌, ◌*◌, ◌≤◌, ◌<◌}
+use mathlib.Core.List.{List, [], ◌∷◌, ◌++◌, append-nil, append_assoc}
 use mathlib.Core.Path.{◌≡◌, refl, ap, ◌∙◌}
 use native.Mathlib.Nat.{add-zero, zero-add, add-suc, suc-add}
 use native.Mathlib.Omega.{arith}
-use lib.ListN.{length, set, replicate}
-use lib.Seq.{sets, sets-eq, length-sets, drop-length}
+use lib.ListN.{length, set, take, drop, replicate, length-take, length-drop, length-replicate}
+use borrow.Rule.Slice.PartMut.{put_mid, mid_of}
+use lib.Seq.{sets, sets-eq, length-sets, drop-length, drop-drop}
 use Rattle.base.specs.Count.{run}
 use Rattle.base.proofs.Run.{run_length, run_append, run_same}
 use Rattle.base.specs.Channels.{red, green, blue}
@@ -55,19 +56,14 @@ pub painted_on : {b : List ℕ} {at : ℕ} {s : Sums} {b' : List ℕ} {s' : Sums
     Painted b at s (run f from i) b' s' → k ≡ at + 3 * i → Painted b' k s' (run f (from + i) n) b'' s'' → Painted b at s (run f from (i + n)) b'' s''
 painted_on f from i n p e q = rw run_append (painted_then p (omega (arith, run_length f from i)) q)
 
--- a turn of a loop that paints
-pub painted_more : {b : List ℕ} {at : ℕ} {s : Sums} {b' : List ℕ} {s' : Sums} {k : ℕ} {b'' : List ℕ} {s'' : Sums} (f : ℕ → ℕ) (from i : ℕ) →
-    Painted b at s (run f from i) b' s' → k ≡ at + 3 * i → Painted b' k s' (f (from + i) ∷ []) b'' s'' → Painted b at s (run f from (i + 1)) b'' s''
-unfolding run
-painted_more f from i p e q = painted_on f from i 1 p e q
-
--- the same where the run is counted from a number on
+-- a turn of a loop that paints, where the run is counted from a number on
 pub painted_turn : {b : List ℕ} {at : ℕ} {s : Sums} {b' : List ℕ} {s' : Sums} {k : ℕ} {b'' : List ℕ} {s'' : Sums} (f : ℕ → ℕ) (a i : ℕ) → a ≤ i →
     Painted b at s (run f a (i - a)) b' s' → k + 3 * a ≡ at + 3 * i → Painted b' k s' (f i ∷ []) b'' s'' → Painted b at s (run f a (i + 1 - a)) b'' s''
+unfolding run
 painted_turn {b} {at} {s} {b'} {s'} {k} f a i l p e q =
     let n : i + 1 - a ≡ i - a + 1 = omega arith in
     let j : a + (i - a) ≡ i = omega arith in
-    rw n (painted_more {k = k} f a (i - a) p (omega arith) (rw j q))
+    rw n (painted_on {k = k} f a (i - a) 1 p (omega arith) (rw j q))
 
 -- colours stored from a buffer's first byte to its last are all that it holds
 pub stored_all : (b colours : List ℕ) → length b ≡ 3 * length colours → sets b 0 (bytes_of colours) ≡ bytes_of colours
@@ -81,25 +77,18 @@ stored_both b xs ys at e n =
     let k : at ≡ 0 + length (bytes_of xs) = omega (arith, bytes_length xs) in
     rw (k, ← sets_append, ← bytes_append) (stored_all b (xs ++ ys) n)
 
--- one more byte blackened
-black_next : (b : List ℕ) (from n : ℕ) → set (sets b from (replicate n 0)) (from + n) 0 ≡ sets b from (replicate (suc n) 0)
-black_next b from zero = rw add-zero
-black_next b from (suc n) = rw (add-suc, ← suc-add) (black_next (set b from 0) (suc from) n)
-
-pub black_more : (b : List ℕ) (from k : ℕ) → from ≤ k → set (sets b from (replicate (k - from) 0)) k 0 ≡ sets b from (replicate (k + 1 - from) 0)
-black_more b from k l =
-    let more : k + 1 - from ≡ suc (k - from) = omega arith in
-    let here : from + (k - from) ≡ k = omega arith in
-    rw more (rw here at (black_next b from (k - from)))
+-- a part of the buffer filled with 0
+pub fill_black : (b : List ℕ) (from n : ℕ) → from + n ≤ length b → (ys : List ℕ) → ys ≡ replicate (length (mid_of from n b)) 0 → put_mid from n b ys ≡ sets b from (replicate n 0)
+fill_black b from n h ys e =
+    let black : List ℕ = replicate n 0 in
+    let long : length (mid_of from n b) ≡ n = simp (length-take, length-drop) (omega arith) in
+    let all : length black ≡ n = length-replicate n 0 in
+    let put : sets b from black ≡ take from b ++ black ++ drop (from + n) b = sets-eq black b from (omega arith) ∙ rw all in
+    rw (e, long, drop-drop, put, append_assoc)
 
 module _ (through : Through) (s : Stretch) where
   abbrev covered : ℕ → ℕ
   covered = covered_colour through s
-
-  -- where a stretch is stored, and how long it is, changes no pixel
-  pub covered_run : (at count a n : ℕ) → run covered a n ≡ run (covered_colour through (record { at = at; from = s.from; x = s.x; y = s.y; count = count })) a n
-  unfolding covered_colour
-  covered_run at count a n = run_same covered (covered_colour through (record { at = at; from = s.from; x = s.x; y = s.y; count = count })) a a n (λ j l. refl)
 
   abbrev plain : ℕ → ℕ
   plain = uncovered_colour through.control through.table through.memory s.from

@@ -1,14 +1,13 @@
 -- What of a stretch the cursor may cover. Assumes nothing.
-use Prim.Native.Nat.{ℕ, zero, suc, ◌+◌, ◌-◌, ◌/◌, ◌%◌, ◌≤◌, ◌<◌, min}
-use mathlib.Core.Bool.{Bool, true, false, cond, ◌&&◌}
+use Prim.Native.Nat.{ℕ, ◌+◌, ◌-◌, min}
+use mathlib.Core.Bool.{Bool, true, false, ◌&&◌}
 use mathlib.Core.List.{List}
-use mathlib.Core.Logic.{◌⊎◌, inl, inr, ⊎_elim}
+use mathlib.Core.Logic.{inl, inr}
 use mathlib.Core.Path.{◌≡◌, refl, sym}
 use native.Mathlib.Omega.{arith}
-use borrow.Author.Tests.{lt-ltb, le-ltb, ltb-true, ltb-false, leb-false}
+use borrow.Author.Tests.{ltb-false, leb-false}
 use lib.Dec.{ltb, leb}
-use lib.IntN.{pos, ◌-ℤ◌}
-use Rattle.control.specs.Control.{field, cursor_on}
+use Rattle.control.specs.Control.{cursor_on}
 use Rattle.cursor.specs.Cursor.{first_column, first_line, code_over}
 use Rattle.cursor.proofs.Clear.{off, beside, above}
 use Rattle.picture.specs.Stretch.{Clipped}

@@ -70,7 +70,7 @@ by_16 s e n = neither_holds (eqb (s.vdisplay.0 % 2) 1) (eqb (s.vblank.0 % 2) 1) 
 by_18 : (s : Screen) → refuses18 s ≡ false → s.interlaced ≡ true → (eqb (s.vdisplay.0 % 2) 0 ≡ false) × (eqb (halves_in_field s % 2) 0 ≡ false)
 by_18 s e n = neither_holds (eqb (s.vdisplay.0 % 2) 0) (eqb (halves_in_field s % 2) 0) (simp n at e)
 
--- a screen may start exactly when none of 10 to 18 holds: neither-holds directions
+-- a screen may start exactly when none of 10 to 18 holds: both directions
 pub accepted : (control : ℕ) (s : Screen) → limit_of control s ≡ 0 → Accepted control s
 unfolding limit_of later_limit
 accepted control s e =

@@ -1,18 +1,16 @@
 -- The counts of a frame whose parameters fit 24 bits: each fits 64 bits. Assumes nothing.
-use Prim.Native.Nat.{ℕ, ◌+◌, ◌*◌, ◌/◌, ◌^◌, ◌≤◌, ◌<◌}
+use Prim.Native.Nat.{ℕ, ◌+◌, ◌-◌, ◌*◌, ◌/◌, ◌^◌, ◌≤◌, ◌<◌}
 use mathlib.Core.Bool.{Bool, true, false, cond}
-use mathlib.Core.Path.{◌≡◌}
-use native.Mathlib.Nat.{mul-le-mul}
+use mathlib.Core.Path.{◌≡◌, ◌∙◌}
+use native.Mathlib.Nat.{mul-le-mul, div-le_self, div-lt_iff_lt-mul, le-div_iff_mul-le}
+use Rattle.std.specs.Int.{div_ceil}
+use Rattle.std.proofs.lemmas.Grind.{div_ceil_times}
 use native.Mathlib.Omega.{arith}
 use Rattle.units.specs.Parameters.{in_field, half_ticks, halves_in_field, field_ticks, displayed_lines}
 use Rattle.lines.specs.Lines.{field_visible}
 use Rattle.lines.proofs.Halves.{visible_most}
 use Rattle.screen.specs.Limits.{Bounded}
-use Rattle.screen.specs.Totals.{frame_ticks, frame_visible, field_transfers, frame_totals}
-use Rattle.screen.specs.declared.totals.Totals.{Totals}
-use Rattle.units.specs.Units.{pixels_of, units_of}
-use Rattle.units.specs.declared.ScreenUnits.{ScreenUnits}
-use Rattle.units.specs.declared.Pixels.{Pixels}
+use Rattle.screen.specs.Totals.{rounded_up, frame_visible}
 use Rattle.units.specs.declared.Screen.{Screen}
 
 module _ (s : Screen) (b : Bounded 0xFFFFFF s) where
@@ -20,13 +18,6 @@ module _ (s : Screen) (b : Bounded 0xFFFFFF s) where
   field_ticks_fit =
       let most = mul-le-mul {n₁ = half_ticks s} {m₁ = halves_in_field s} {n₂ = 0x7FFFFF} {m₂ = 5 * 0xFFFFFF} (omega arith) (omega arith) in
       omega arith
-
-  pub ticks_fit : frame_ticks s < 2 ^ 51
-  ticks_fit = go s.interlaced
-    where
-      go : (t : Bool) → cond t 2 1 * field_ticks s < 2 ^ 51
-      go true = omega (arith, field_ticks_fit)
-      go false = omega (arith, field_ticks_fit)
 
   lines_most : displayed_lines s ≤ 0xFFFFFF
   lines_most = go s.interlaced
@@ -49,12 +40,15 @@ module _ (s : Screen) (b : Bounded 0xFFFFFF s) where
       let most = mul-le-mul {n₁ = s.vdisplay.0 + 1} {m₁ = s.display.0} {n₂ = 0x1000000} {m₂ = 0xFFFFFF} (omega arith) (omega arith) in
       omega (arith, visible_most (in_field f s))
 
--- what the code adds up is the frame's
-module _ (s : Screen) (b : Bool) (format : s.interlaced ≡ b) (times : ℕ) (times_is : times ≡ cond b 2 1) where
-  pub times_fit : Bounded 0xFFFFFF s → (field : ScreenUnits) → field ≡ units_of (record { 0 = halves_in_field s }) s.linetime → times * field.0 < 2 ^ 51
-  times_fit k field e = rw (e, times_is, ← format) (ticks_fit s k)
+-- a quotient rounded up, as the code divides
+ceiling : (n d q : ℕ) → 0 < d → n ≤ q * d → q * d < n + d → q ≡ rounded_up n d
+ceiling n d q some low high =
+    let top : (n + (d - 1)) / d < q + 1 = (div-lt_iff_lt-mul {x = n + (d - 1)} {y = q + 1} some).1 (omega (arith, low)) in
+    let bottom : q ≤ (n + (d - 1)) / d = (le-div_iff_mul-le {x = q} {y = n + (d - 1)} some).1 (omega (arith, high)) in
+    omega (arith, top, bottom)
 
-  pub counted_by : (field : ScreenUnits) → field ≡ units_of (record { 0 = halves_in_field s }) s.linetime → (lines : ℕ) → lines ≡ displayed_lines s →
-      (pixels : Pixels) → pixels ≡ pixels_of (record { 0 = s.display.0 * lines }) → (one two both : ℕ) → one ≡ field_transfers (in_field false s) → both ≡ cond b two 0 → two ≡ field_transfers (in_field true s) →
-      ◌≡◌ {A = Totals} (record { refusal = 0; ticks = record { 0 = times * field.0 }; visible = record { 0 = s.display.0 * lines }; transfers = one + both; pixels = pixels }) (frame_totals s)
-  counted_by field ef lines el pixels ep one two both eo eb et = rw (times_is, ef, ep, el, eo, eb, et, ← format)
+pub by_ceiling : (n d q : ℕ) → 0 < d → q ≡ div_ceil n d → q ≡ rounded_up n d
+by_ceiling n d q some e = e ∙ ceiling n d (div_ceil n d) some (div_ceil_times n d some).0 (div_ceil_times n d some).1
+
+pub ceiling_least : (n d q : ℕ) → q ≡ rounded_up n d → q ≤ n + (d - 1)
+ceiling_least n d q e = omega (arith, e, div-le_self (n + (d - 1)) d)

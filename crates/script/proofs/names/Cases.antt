@@ -1,38 +1,47 @@
--- What a word's name comes to, name by name. Assumes nothing.
-use Prim.Native.Nat.{ℕ, suc, ◌+◌, ◌≤◌}
-use mathlib.Core.Bool.{Bool, true, false, cond, true≢false}
-use mathlib.Core.List.{List, [], ◌∷◌}
+-- A word's place among words, word by word. Assumes nothing.
+use Prim.Native.Nat.{ℕ, ◌+◌, ◌≤◌, ◌<◌}
+use mathlib.Core.Bool.{Bool, true, false}
+use mathlib.Core.List.{List, [], ◌∷◌, map}
 use mathlib.Core.Path.{◌≡◌, refl, sym, ◌∙◌}
 use native.Mathlib.Omega.{arith}
-use lib.ListN.{length}
+use lib.Dec.{eqb}
+use lib.ListN.{length, get_or, drop}
+use lib.Pointwise.{pointwise}
+use Rattle.std.proofs.Common.{add-one, drop-cons}
+use Rattle.std.proofs.lemmas.List.{drop_all}
 use Rattle.vault.specs.Compare.{match}
-use Rattle.vault.proofs.Laws.{match_equal, match_self}
 use Rattle.script.specs.Names.{name_from}
 
--- a test that holds exactly where two lists are one is their match
-pub is_match : (r : Bool) (a b : List ℕ) → (r ≡ true → a ≡ b) → (a ≡ b → r ≡ true) → r ≡ match a b
-is_match r a b p q = go r (match a b) refl p q
-  where
-    go : (r m : Bool) → match a b ≡ m → (r ≡ true → a ≡ b) → (a ≡ b → r ≡ true) → r ≡ match a b
-    go r true e p q = q (match_equal a b e) ∙ sym e
-    go true false e p q = absurd (true≢false (sym (match_self a) ∙ rw (← p refl) at e))
-    go false false e p q = sym e
+-- the test that two lists are one is their match
+pub same_match : (a b : List ℕ) → pointwise eqb a b ≡ match a b
+unfolding match
+same_match [] [] = refl
+same_match [] (y ∷ b) = refl
+same_match (x ∷ a) [] = refl
+same_match (x ∷ a) (y ∷ b) = rw (same_match a b) refl
 
--- a name's number is at most the one past the last
-pub name_bound : (k : ℕ) (names : List (List ℕ)) (word : List ℕ) → name_from k names word ≤ k + length names
-unfolding name_from
-name_bound k [] word = omega arith
-name_bound k (name ∷ later) word = go (match word name) (name_bound (suc k) later word)
-  where
-    go : (b : Bool) → name_from (suc k) later word ≤ suc k + length later → cond b k (name_from (suc k) later word) ≤ k + suc (length later)
-    go true h = omega arith
-    go false h = omega arith
+module _ {W : Type 0} (text : W → List ℕ) (words : List W) (word : List ℕ) (k : ℕ) where
+  -- the place among the words from k on is that among all
+  abbrev pub Reached : Type 0
+  Reached = name_from k (map text (drop k words)) word ≡ name_from 0 (map text words) word
 
--- one name's test, before the later ones
-pub name_step : (k : ℕ) (name : List ℕ) (later : List (List ℕ)) (word : List ℕ) (x r : ℕ) → x ≡ name_from (suc k) later word → r ≡ cond (match word name) k x → r ≡ name_from k (name ∷ later) word
-unfolding name_from
-name_step k name later word x r ex er = er ∙ rw ex
+  module _ (d : W) (t : Bool) (h : k < length words) (r : Reached) (e : t ≡ pointwise eqb word (text (get_or words k d))) where
+    here : name_from k (text (get_or words k d) ∷ map text (drop (k + 1) words)) word ≡ name_from 0 (map text words) word
+    here = rw add-one (rw (drop-cons words k d) at r)
 
-pub name_none : (k : ℕ) (word : List ℕ) → k ≡ name_from k [] word
-unfolding name_from
-name_none k word = refl
+    tested : match word (text (get_or words k d)) ≡ t
+    tested = sym (same_match word (text (get_or words k d))) ∙ sym e
+
+    pub place_here : t ≡ true → k ≡ name_from 0 (map text words) word
+    unfolding name_from
+    place_here b = rw (tested, b) at here
+
+    pub place_next : t ≡ false → name_from (k + 1) (map text (drop (k + 1) words)) word ≡ name_from 0 (map text words) word
+    unfolding name_from
+    place_next b = rw add-one (rw (tested, b, add-one) at here)
+
+  pub place_none : length words ≤ k → k ≤ length words → Reached → length words ≡ name_from 0 (map text words) word
+  unfolding name_from
+  place_none h b r =
+      let e : length words ≡ k = omega arith in
+      e ∙ rw drop_all at r

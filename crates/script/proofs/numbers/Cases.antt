@@ -1,29 +1,41 @@
 -- What a command's numbers come to, word by word. Assumes nothing.
 use Prim.Native.Nat.{ℕ, suc, ◌+◌, ◌≤◌, ◌<◌}
 use mathlib.Core.Bool.{true, false, cond, ◌&&◌}
-use mathlib.Core.List.{List}
-use mathlib.Core.Path.{◌≡◌, refl, ◌∙◌}
+use mathlib.Core.List.{List, [], ◌∷◌, map}
+use mathlib.Core.Path.{◌≡◌, refl, sym, ◌∙◌}
 use native.Mathlib.Nat.{add-zero, zero-add, add-suc, suc-add}
 use native.Mathlib.Numerals.{add-one}
 use borrow.Author.Tests.{lt-ltb, le-ltb}
 use lib.Dec.{ltb, leb, eqb, leb→le}
-use lib.ListN.{get_or, drop, set, replicate, get_or-eq_default}
+use lib.ListN.{get_or, drop, set, replicate}
 use Rattle.base.proofs.Table.{entry}
 use Rattle.words.specs.Words.{skip, front, past, word_at, word_count}
-use Rattle.words.specs.Numbers.{number_of}
-use Rattle.words.specs.declared.number.Number.{Number}
-use Rattle.script.specs.Arguments.{leasts, mosts, plains, argument_of, fault_up_to, values_up_to, no_numbers, numbers_of, numbers_for}
+use Rattle.words.specs.Numbers.{largest, number_of}
+use Rattle.script.specs.Commands.{sizes}
+use Rattle.words.specs.declared.number.NumberFault.{NumberFault}
+use Rattle.words.specs.declared.number.NumberFault.TheVariants.{TooLarge}
+use Rattle.std.specs.Prelude.{Result, Ok, Err}
+use Rattle.std.specs.Result.{result_unwrap_or}
+use Rattle.script.specs.Arguments.{leasts, mosts, plains, argument_of, fault_of, fault_up_to, values_up_to, no_numbers, numbers_of}
 use Rattle.script.specs.declared.numbers.Numbers.{Numbers}
+use Rattle.script.specs.declared.numbers.Takes.{Takes}
+use Rattle.script.specs.declared.numbers.TheConstants.{TAKES}
+use Rattle.std.proofs.Math.ListN.{get_or-map, get_or-append}
 
--- word k as a number: a byte that is too large, and any other
-module _ (plain k : ℕ) (word : List ℕ) (n : Number) (e : n ≡ number_of word) where
-  pub argument_large : (leb plain k && ltb 255 n.value) ≡ true → ◌≡◌ {A = Number} (record { fault = 5; value = 0 }) (argument_of plain k word)
+-- word k as a number: one at fault, a byte that is too large, and any other
+module _ (plain k : ℕ) (word : List ℕ) where
+  pub argument_bad : (fault : NumberFault) → number_of word ≡ Err fault → Err fault ≡ argument_of plain k word
   unfolding argument_of
-  argument_large t = rw (← e, t)
+  argument_bad fault e = rw e
 
-  pub argument_plain : (leb plain k && ltb 255 n.value) ≡ false → n ≡ argument_of plain k word
-  unfolding argument_of
-  argument_plain t = rw (← e, t)
+  module _ (n : ℕ) (e : number_of word ≡ Ok n) where
+    pub argument_large : (leb plain k && ltb 255 n) ≡ true → Err TooLarge ≡ argument_of plain k word
+    unfolding argument_of
+    argument_large t = rw (e, t)
+
+    pub argument_plain : (leb plain k && ltb 255 n) ≡ false → Ok n ≡ argument_of plain k word
+    unfolding argument_of
+    argument_plain t = rw (e, t)
 
 -- a turn over the words: the word there, and the words from the next place on
 module _ (rest : List ℕ) (at k : ℕ) (on : (j : ℕ) → word_at j (drop at rest) ≡ word_at (k + j) rest) where
@@ -35,12 +47,12 @@ module _ (rest : List ℕ) (at k : ℕ) (on : (j : ℕ) → word_at j (drop at r
   unfolding word_at
   words_next to e j = rw (e, add-one k, suc-add, ← add-suc) (on (suc j))
 
-module _ (plain : ℕ) (rest : List ℕ) (k : ℕ) (word : List ℕ) (n : Number) (ew : word ≡ word_at k rest) (en : n ≡ argument_of plain k word) where
-  pub fault_next : (fault r : ℕ) → fault ≡ fault_up_to plain rest k → r ≡ cond (eqb fault 0) n.fault fault → r ≡ fault_up_to plain rest (k + 1)
+module _ (plain : ℕ) (rest : List ℕ) (k : ℕ) (word : List ℕ) (n : Result ℕ NumberFault) (ew : word ≡ word_at k rest) (en : n ≡ argument_of plain k word) where
+  pub fault_next : (fault r : ℕ) → fault ≡ fault_up_to plain rest k → r ≡ cond (eqb fault 0) (fault_of n) fault → r ≡ fault_up_to plain rest (k + 1)
   unfolding fault_up_to
   fault_next fault r e er = er ∙ rw (add-one k, ← ew, ← en, ← e)
 
-  pub values_next : (values : List ℕ) → values ≡ values_up_to plain rest k → set values k n.value ≡ values_up_to plain rest (k + 1)
+  pub values_next : (values : List ℕ) → values ≡ values_up_to plain rest k → set values k (result_unwrap_or n 0) ≡ values_up_to plain rest (k + 1)
   unfolding values_up_to
   values_next values e = rw (add-one k, ← ew, ← en, ← e)
 
@@ -73,9 +85,25 @@ module _ (least most plain : ℕ) (rest : List ℕ) (count : ℕ) (r : Numbers) 
   unfolding numbers_of
   numbers_read h k ef en ev = rw (← ec, le-ltb count least h, le-ltb most count k) (whole r _ _ _ ef en ev)
 
-pub most_bound : (name : ℕ) → name < 13 → get_or mosts name 0 ≤ 81
-most_bound name h = leb→le _ _ (entry (λ n most. leb most 81) mosts tt name h)
+-- each field of a row stands in its own column
+module _ (name : ℕ) where
+  abbrev pub row : Takes
+  row = get_or TAKES name (record { least = 0; most = 0; plain = 0; size = 0 })
 
--- what is no name takes no words
-pub numbers_unnamed : (name : ℕ) (rest : List ℕ) (r : Numbers) → 13 ≤ name → r ≡ numbers_of 0 0 0 rest → r ≡ numbers_for name rest
-numbers_unnamed name rest r h e = rw (get_or-eq_default leasts 0 h, get_or-eq_default mosts 0 h, get_or-eq_default plains 0 h) e
+  column : (field : Takes → ℕ) → field row ≡ get_or (map field TAKES) name (field (record { least = 0; most = 0; plain = 0; size = 0 }))
+  column field = sym (get_or-map field TAKES name (record { least = 0; most = 0; plain = 0; size = 0 }))
+
+  pub least_is : row.least ≡ get_or leasts name 0
+  least_is = column (λ t. t.least)
+
+  pub most_is : row.most ≡ get_or mosts name 0
+  most_is = column (λ t. t.most)
+
+  pub plain_is : row.plain ≡ get_or plains name 0
+  plain_is = column (λ t. t.plain)
+
+  pub size_is : name < 12 → row.size ≡ get_or sizes name 0
+  size_is h = column (λ t. t.size) ∙ get_or-append sizes (largest ∷ []) 0 name h
+
+  pub most_bound : name < 13 → row.most ≤ 81
+  most_bound h = rw most_is (leb→le _ _ (entry (λ n most. leb most 81) mosts tt name h))

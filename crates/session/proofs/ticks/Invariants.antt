@@ -1,7 +1,7 @@
 -- `session::ticks` meets its contract: each tick is one more of the run, and keeps the one condition; the registers stand outside.
-use Prim.Native.Nat.{◌≤◌, ◌-◌}
+use Prim.Native.Nat.{◌-◌}
 use mathlib.Core.Path.{◌≡◌}
-use Rattle.registers.specs.File.{file_of}
+use Rattle.registers.specs.File.{file_with}
 use Rattle.generator.specs.Sound.{Sound}
 use Rattle.calls.specs.Calls.{ran_of}
 use Rattle.calls.specs.Runs.{machine_of}
@@ -12,11 +12,7 @@ use Rattle.session.proofs.ticks.Given as goal
 
 abbrev pub invariant-loop-ticks : goal.invariant-loop-ticks
 invariant-loop-ticks g l =
-    (l.ticks ≤ l.count)
-    × (file_of l.n l.colours l.palette l.store ≡ l.regs)
-    × (◌≡◌ {A = Ran} (record { done = l.ticks; refusal = 0; machine = machine_of l.regs l.generator }) (ran_of l.memory (machine_of l.regs l.initial.generator) l.ticks))
-    × (Sound l.regs l.generator)
-    × (ticks_shown l.regs l.memory l.generator (shown l.page l.out) (l.count - l.ticks) ≡ ticks_shown l.regs l.memory l.initial.generator (shown l.initial.page l.initial.out) l.count)
-
-abbrev pub decreases-loop-ticks : goal.decreases-loop-ticks
-decreases-loop-ticks g l = l.count - l.ticks
+    (file_with l.n l.tables ≡ l.before.machine.regs)
+    × (◌≡◌ {A = Ran} (record { done = l.ticks; refusal = 0; machine = machine_of l.before.machine.regs l.generator }) (ran_of l.memory (machine_of l.before.machine.regs l.initial.generator) l.ticks))
+    × (Sound l.before.machine.regs l.generator)
+    × (ticks_shown l.before.machine.regs l.memory l.generator (shown l.page l.out) (l.count - l.ticks) ≡ ticks_shown l.before.machine.regs l.memory l.initial.generator (shown l.initial.page l.initial.out) l.count)

@@ -1,18 +1,13 @@
--- `sheet::sheet_refusal` meets its contract. The loop keeps: the refusal held, or else that of the fields left, is the sheet's. Assumes nothing.
-use mathlib.Core.Path.{refl}
+-- `sheet::sheet_refusal` meets its contract. The loop keeps: the refusal of the fields left is the sheet's. Assumes nothing.
 use native.Mathlib.Omega.{arith}
-use Rattle.sheet.proofs.Cases.{judged, judged_all}
+use Rattle.sheet.proofs.Cases.{refused, passed, judged_all}
 use Rattle.sheet.proofs.sheet_refusal.Goals as goal
 
-pub loop-i-init : goal.loop-i-init
-loop-i-init c = (omega arith, refl)
+pub returns-then-field-ne0 : goal.returns-then-field-ne0
+returns-then-field-ne0 c = record { refusal = refused _ c.loop-i.i _ (omega arith) c.loop-i.invariant _ c.refusal_at-field.ensures.refusal c.if-field-ne0.true }
 
 pub loop-i-preserved : goal.loop-i-preserved
-loop-i-preserved c =
-    let loop = c.loop-i in
-    (omega arith, judged _ loop.i loop.refusal _ (omega arith) loop.invariant.1 c.first-refusal.result (rw (c.first-refusal.ensures.chosen, c.field_refusal-field.ensures.refusal, c.left_from.ensures.left, c.wide.ensures.same, c.tag_of.ensures.tag)))
+loop-i-preserved c = passed _ c.loop-i.i _ (omega arith) c.loop-i.invariant _ c.refusal_at-field.ensures.refusal c.if-field-ne0.false
 
 pub returns : goal.returns
-returns c =
-    let loop = c.loop-i in
-    record { refusal = rw (c.first.ensures.chosen, c.first-end.ensures.chosen, c.left_from-over.ensures.left) (judged_all _ loop.i loop.refusal _ (omega arith) loop.invariant.1) }
+returns c = record { refusal = rw (c.choose.ensures.chosen, c.left_from-over.ensures.left) (judged_all _ c.loop-i.i _ (omega arith) c.loop-i.invariant) }

@@ -9,17 +9,15 @@ use Rattle.sheet.proofs.sheet_values.Goals as goal
 
 pub loop-i-init : goal.loop-i-init
 unfolding values_from
-loop-i-init c = (omega arith, refl)
+loop-i-init c = refl
 
 pub loop-i-preserved : goal.loop-i-preserved
-unfolding values_from
 loop-i-preserved c =
-    let turn = c.before.before.before.before in
-    let e : 256 * c.wide_at.result + c.wide_at-in-loop-i.result ≡ pair (drop (5 * turn.loop-i.i) turn.args.sheet.now) 3 = rw (c.wide_at-in-loop-i.ensures.same, c.wide_at.ensures.same, c.left_from-left.ensures.left) in
-    (omega arith, rw e (valued _ _ _ turn.loop-i.i (omega arith) turn.loop-i.invariant.1))
+    let value : 256 * c.wide_at.result + c.wide_at-in-loop-i.result ≡ pair (drop (5 * c.loop-i.i) c.args.sheet.now) 3 = rw (c.wide_at-in-loop-i.ensures.same, c.wide_at.ensures.same, c.left_from-left.ensures.left) in
+    rw value (valued _ _ _ c.loop-i.i (omega arith) c.loop-i.invariant)
 
 pub returns : goal.returns
 unfolding values_from
 returns c =
-    let e : c.loop-i.i ≡ 14 = omega arith in
-    record { values = rw e at c.loop-i.invariant.1 }
+    let end : c.loop-i.i ≡ 14 = omega arith in
+    record { values = rw end at c.loop-i.invariant }

@@ -8,7 +8,4 @@ use Rattle.sheet.specs.Reader.{values_from}
 use Rattle.sheet.proofs.sheet_values.Given as goal
 
 abbrev pub invariant-loop-i : goal.invariant-loop-i
-invariant-loop-i l = (l.i ≤ 14) × (sets l.values l.i (values_from (drop l.i tags) (drop (5 * l.i) l.sheet)) ≡ values_from tags l.sheet)
-
-abbrev pub decreases-loop-i : goal.decreases-loop-i
-decreases-loop-i l = 14 - l.i
+invariant-loop-i l = (sets l.values l.i (values_from (drop l.i tags) (drop (5 * l.i) l.sheet)) ≡ values_from tags l.sheet)

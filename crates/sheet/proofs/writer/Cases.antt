@@ -21,15 +21,6 @@ stored room values whole i h l kept =
     let e : 5 * (i + 1) ≡ suc (suc (suc (suc (suc (5 * i))))) = omega arith in
     rw e (rw (left_from tags i, left_from values i (omega arith)) at kept)
 
--- a value is tested
-pub tested : (values : List ℕ) (i : ℕ) (held whole : Bool) → i < length values → (held || over (drop i values)) ≡ whole → ((held || ltb 65535 (get_or values i 0)) || over (drop (i + 1) values)) ≡ whole
-unfolding over
-tested values i held whole h kept = rw or_assoc (rw (left_from values i) at kept)
-
-pub finished : (values : List ℕ) (held : Bool) (i : ℕ) → length values ≤ i → (held || over (drop i values)) ≡ over values → held ≡ over values
-unfolding over
-finished values held i h kept = sym (or-false held) ∙ (rw (drop_of_length-le values h) at kept)
-
 -- a room that took every field, and one that was refused
 pub full : (room values after : List ℕ) (i : ℕ) → i ≡ 14 → length values ≡ 14 → write_refusal values room ≡ 0 → sets after (5 * i) (fields (drop i tags) (drop i values)) ≡ sets room 0 (encoding values) → after ≡ room_written values room
 unfolding fields

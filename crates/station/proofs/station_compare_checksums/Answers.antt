@@ -2,4 +2,4 @@
 use Rattle.station.proofs.station_compare_checksums.Goals as goal
 
 pub returns : goal.returns
-returns c = record { number = rw (c.numbered.ensures.number, c.first.ensures.chosen, c.compare-compared.ensures.whole) }
+returns c = record { number = rw (c.numbered.ensures.number, c.choose.ensures.chosen, c.compare-compared.ensures.whole) }

@@ -1,14 +1,9 @@
--- `weave::lay` meets its contract: one byte of the row more at each turn, and behind it the room as it was.
-use Prim.Native.Nat.{◌≤◌, ◌-◌}
+-- `weave::lay` meets its contract: one byte more at each turn.
+use Prim.Native.Nat.{ℕ, ◌<◌}
 use mathlib.Core.Path.{◌≡◌}
-use mathlib.Core.List.{◌++◌}
-use lib.ListN.{drop}
-use Rattle.base.specs.Count.{run}
+use lib.ListN.{get_or}
 use Rattle.weave.specs.Part.{byte_in}
 use Rattle.weave.proofs.lay.Given as goal
 
 abbrev pub invariant-loop-k : goal.invariant-loop-k
-invariant-loop-k l = (l.k ≤ l.count) × (l.room ≡ run (byte_in l.picture l.p) 0 l.k ++ drop l.k l.initial.room)
-
-abbrev pub decreases-loop-k : goal.decreases-loop-k
-decreases-loop-k l = l.count - l.k
+invariant-loop-k l = (j : ℕ) → j < l.k → get_or l.byte-items j 0 ≡ byte_in l.picture l.p j

@@ -1,40 +1,27 @@
 -- `weave::put_row` meets its contract: the row where it fits, and otherwise nothing.
-use Prim.Native.Nat.{◌*◌, ◌≤◌}
-use mathlib.Core.Bool.{true}
-use mathlib.Core.Path.{◌≡◌, sym, ◌∙◌}
 use native.Mathlib.Omega.{arith}
 use lib.ListN.{length}
-use Rattle.weave.specs.Weave.{is_row}
-use Rattle.weave.specs.Part.{Small}
 use Rattle.weave.proofs.Rows.{row_small, put_whole, put_none}
 use Rattle.weave.proofs.put_row.Goals as goal
 
-pub lay-requires : goal.lay-requires
-lay-requires c =
-    let fits : let a = c.args in is_row a.w a.row (length a.room.now) ≡ true = sym c.is_row-row_fits.ensures.holds ∙ c.if-row_fits.true in
-    let small : let a = c.args in Small a.w a.row × (3 * a.w.width ≤ length a.room.now) = row_small _ _ _ (fits) in
-    let s = small in
-    record { count_in_bounds = s.1; count_bound = rw c.part_of-p.ensures.part (omega (arith, s.0)) }
-
-pub returns-then-row_fits : goal.returns-then-row_fits
-returns-then-row_fits c =
-    let fits : let a = c.args in is_row a.w a.row (length a.room.now) ≡ true = sym c.is_row-row_fits.ensures.holds ∙ c.if-row_fits.true in
-    let rest_of_it = put_whole _ _ _ _ (fits) _ c.part_of-p.ensures.part _ c.lay.ensures.bytes in
-    record { count = rest_of_it.0; bytes = rest_of_it.1.0; within = rest_of_it.1.1 }
-
 pub overflow_mul-count : goal.overflow_mul-count
-overflow_mul-count c =
-    let fits : let a = c.args in is_row a.w a.row (length a.room.now) ≡ true = sym c.is_row-row_fits.ensures.holds ∙ c.if-row_fits.true in
-    let small : let a = c.args in Small a.w a.row × (3 * a.w.width ≤ length a.room.now) = row_small _ _ _ (fits) in
-    omega (arith, small)
+overflow_mul-count c = let a = c.args in omega (arith, row_small a.w a.row (length a.room.now) c.if-is_row.ensures.holds)
 
 pub part_of-p-requires : goal.part_of-p-requires
-part_of-p-requires c =
-    let fits : let a = c.args in is_row a.w a.row (length a.room.now) ≡ true = sym c.is_row-row_fits.ensures.holds ∙ c.if-row_fits.true in
-    let small : let a = c.args in Small a.w a.row × (3 * a.w.width ≤ length a.room.now) = row_small _ _ _ (fits) in
-    (small).0
+part_of-p-requires c = (row_small _ _ _ c.if-is_row.ensures.holds).0
+
+pub lay-requires : goal.lay-requires
+lay-requires c =
+    let a = c.args in
+    let small = row_small a.w a.row (length a.room.now) c.if-is_row.ensures.holds in
+    record { count_in_bounds = small.1; count_bound = rw c.part_of-p.ensures.part (omega (arith, small.0)) }
+
+pub returns-then-is_row : goal.returns-then-is_row
+returns-then-is_row c =
+    let put = put_whole _ _ _ _ c.if-is_row.ensures.holds _ c.part_of-p.ensures.part _ c.lay.ensures.bytes in
+    record { count = put.0; bytes = put.1.0; within = put.1.1 }
 
 pub returns : goal.returns
 returns c =
-    let rest_of_it = put_none _ _ _ _ (sym c.is_row-row_fits.ensures.holds ∙ c.if-row_fits.false) in
-    record { count = rest_of_it.0; bytes = rest_of_it.1.0; within = rest_of_it.1.1 }
+    let put = put_none _ _ _ _ c.if-is_row.ensures.holds in
+    record { count = put.0; bytes = put.1.0; within = put.1.1 }

@@ -4,4 +4,4 @@ use Rattle.generator.proofs.Puts.{signals_by}
 use Rattle.generator.proofs.output.signals_of.Goals as goal
 
 pub returns : goal.returns
-returns c = record { signals = signals_by (bare c.args.n) c.args.g c.args.t c.requires _ _ _ c.is_transferring.ensures.bit c.first.ensures.chosen }
+returns c = record { signals = signals_by (bare c.args.n) c.args.g c.args.t c.requires _ _ _ c.is_transferring.ensures.bit c.choose.ensures.chosen }

@@ -1,5 +1,5 @@
 -- `generator::stand::first_visible` meets its contract: 24 bits bound the counts.
-use Prim.Native.Nat.{ℕ, ◌+◌, ◌*◌, ◌^◌, ◌≤◌, ◌<◌}
+use Prim.Native.Nat.{ℕ, ◌+◌, ◌*◌, ◌^◌, ◌≤◌}
 use mathlib.Core.Bool.{Bool, true, false, cond}
 use mathlib.Core.Path.{◌≡◌}
 use native.Mathlib.Nat.{add-zero}
@@ -10,7 +10,6 @@ use Rattle.screen.specs.Limits.{Bounded}
 use Rattle.lines.specs.Lines.{lead}
 use Rattle.units.specs.declared.Screen.{Screen}
 use Rattle.generator.specs.First.{first_visible}
-use Rattle.generator.proofs.stand.Bounds.{lines_in}
 use Rattle.generator.proofs.stand.first_visible.Goals as goal
 
 -- what is added is at most a line
@@ -22,39 +21,6 @@ add_most s k false false late add el ea = omega (arith, k.linetime.high, k.halfs
 by : (s : Screen) (before late add : ℕ) → before ≡ lead s → late ≡ cond (ltb before s.display.0) 0 (half_ticks s + display_from s) → add ≡ cond (eqb before 0) (display_from s) late → halves_to_vdisplay s * half_ticks s + add ≡ first_visible s
 unfolding first_visible
 by s before late add eb el ea = rw (ea, el, eb, add-zero)
-
-pub overflow_add-start : goal.overflow_add-start
-overflow_add-start c = omega (arith, c.requires.bounded)
-
-pub overflow_add-start-2 : goal.overflow_add-start-2
-overflow_add-start-2 c = omega (arith, c.requires.bounded)
-
-pub overflow_add-start-3 : goal.overflow_add-start-3
-overflow_add-start-3 c = omega (arith, c.requires.bounded)
-
-pub overflow_mul-from : goal.overflow_mul-from
-overflow_mul-from c = omega (arith, c.requires.bounded.halfsync.high)
-
-pub overflow_add-from : goal.overflow_add-from
-overflow_add-from c =
-    let k = c.requires.bounded in
-    omega (arith, k.halfsync.high, k.backporch.high)
-
-pub overflow_add-half : goal.overflow_add-half
-overflow_add-half c =
-    let k = c.requires.bounded in
-    omega (arith, k.linetime.high, k.halfsync.high, k.backporch.high)
-
-pub overflow_mul-result : goal.overflow_mul-result
-overflow_mul-result c =
-    let product : halves_to_vdisplay c.args.s * half_ticks c.args.s < 2 ^ 50 = lines_in _ _ (omega (arith, c.requires.bounded)) (omega (arith, c.requires.bounded.linetime.high)) in
-    omega (arith, product)
-
-pub overflow_add-result : goal.overflow_add-result
-overflow_add-result c =
-    let product : halves_to_vdisplay c.args.s * half_ticks c.args.s < 2 ^ 50 = lines_in _ _ (omega (arith, c.requires.bounded)) (omega (arith, c.requires.bounded.linetime.high)) in
-    let most : c.choose.result ≤ 2 ^ 27 = add_most c.args.s c.requires.bounded (eqb c.args.before 0) (ltb c.args.before c.args.s.display.0) _ _ c.choose-late.ensures.chosen c.choose.ensures.chosen in
-    omega (arith, product, most)
 
 pub returns : goal.returns
 returns c = record { number = by c.args.s c.args.before _ _ c.requires.before_value c.choose-late.ensures.chosen c.choose.ensures.chosen }

@@ -1,15 +1,12 @@
 -- `generator::stand::is_request` meets its contract: 24 bits bound the counts, because the generator stands inside its field; the prelude by its number.
-use Prim.Native.Nat.{◌*◌, ◌^◌, ◌<◌}
 use mathlib.Core.Path.{◌≡◌, ap, ◌∙◌}
-use native.Mathlib.Omega.{arith}
-use Rattle.units.specs.Parameters.{screen_of, in_field, half_ticks}
+use Rattle.units.specs.Parameters.{screen_of, in_field}
 use Rattle.units.specs.declared.Screen.{Screen}
 use Rattle.lines.specs.Lines.{lead, field_visible}
 use Rattle.registers.specs.File.{bare}
 use Rattle.registers.specs.declared.Registers.{Registers}
 use Rattle.generator.specs.Rows.{field_at}
 use Rattle.generator.specs.declared.Generator.{Generator}
-use Rattle.generator.proofs.stand.Bounds.{lines_in}
 use Rattle.generator.proofs.stand.Stands.{request_by}
 use Rattle.generator.proofs.stand.is_request.Goals as goal
 
@@ -17,21 +14,6 @@ use Rattle.generator.proofs.stand.is_request.Goals as goal
 same : (r : Registers) (g : Generator) (s : Screen) → s ≡ field_at r g → in_field s.second (screen_of r.params s.interlaced) ≡ s
 unfolding screen_of
 same r g s e = rw e
-
-pub overflow_mul-number : goal.overflow_mul-number
-overflow_mul-number c =
-    let product : c.args.g.half.0 * half_ticks c.args.s < 2 ^ 50 = lines_in _ _ (omega (arith, c.requires.inside.half_in, c.requires.inside.bounded)) (omega (arith, c.requires.inside.bounded.linetime.high)) in
-    omega (arith, product)
-
-pub overflow_add-number : goal.overflow_add-number
-overflow_add-number c =
-    let product : c.args.g.half.0 * half_ticks c.args.s < 2 ^ 50 = lines_in _ _ (omega (arith, c.requires.inside.half_in, c.requires.inside.bounded)) (omega (arith, c.requires.inside.bounded.linetime.high)) in
-    omega (arith, product, c.requires.inside.at_in, c.requires.inside.bounded.linetime.high)
-
-pub overflow_add-reach : goal.overflow_add-reach
-overflow_add-reach c =
-    let product : c.args.g.half.0 * half_ticks c.args.s < 2 ^ 50 = lines_in _ _ (omega (arith, c.requires.inside.half_in, c.requires.inside.bounded)) (omega (arith, c.requires.inside.bounded.linetime.high)) in
-    omega (arith, product, c.requires.inside.at_in, c.requires.inside.bounded.linetime.high, c.requires.inside.bounded.transferdelay.high)
 
 pub first_visible-first-requires : goal.first_visible-first-requires
 first_visible-first-requires c =

@@ -1,20 +1,14 @@
 -- `machine::checksum::checksum_word` meets its contract: the table holds the place values of a sum's bytes.
-use mathlib.Core.Path.{◌∙◌}
-use native.Mathlib.Omega.{arith}
-use Rattle.machine.proofs.checksum.Cases.{byte_positive, word_within, word_past}
+use Rattle.std.proofs.Common.{◌∙◌}
+use Rattle.machine.proofs.checksum.Cases.{word_within, word_past}
 use Rattle.machine.proofs.checksum.checksum_word.Goals as goal
 
-pub nonzero_div-red : goal.nonzero_div-red
-nonzero_div-red c = omega (arith, byte_positive _ c.if-i-lt3.true)
-
-pub nonzero_div-green : goal.nonzero_div-green
-nonzero_div-green c = omega (arith, byte_positive _ c.if-i-lt3.true)
-
-pub nonzero_div-blue : goal.nonzero_div-blue
-nonzero_div-blue c = omega (arith, byte_positive _ c.if-i-lt3.true)
-
-pub returns-then-i-lt3 : goal.returns-then-i-lt3
-returns-then-i-lt3 c = record { word = c.join.ensures.word ∙ word_within _ _ c.if-i-lt3.true }
+pub returns-in_default : goal.returns-in_default
+returns-in_default c =
+    let past = c.in_default.ensures.lookup in
+    record { word = word_past _ _ past.3 }
 
 pub returns : goal.returns
-returns c = record { word = word_past _ _ c.if-i-lt3.false }
+returns c =
+    let found = c.in-Some.ensures.lookup in
+    record { word = c.join.ensures.word ∙ rw (found.3.1 0) (word_within _ _ found.3.0) }

@@ -4,7 +4,8 @@ use native.Mathlib.Omega.{arith}
 use Rattle.marks.proofs.ear.Near.{far_uncovered}
 use Rattle.marks.proofs.ear.is_covered_near.Goals as goal
 
-pub returns : goal.returns
-returns c =
+pub returns-else-is_near_to : goal.returns-else-is_near_to
+returns-else-is_near_to c =
     let a = c.args in
-    record { test = sym (far_uncovered a.p a.p refl (omega arith) (omega arith) a.right a.levels.now a.k a.last (omega arith) c.requires.1 (sym c.is_near_to.ensures.test ∙ c.if-is_near_to.false)) }
+    let far = c.if-is_near_to.false in
+    record { test = far ∙ sym (far_uncovered a.p a.p refl (omega arith) (omega arith) a.right a.levels.now a.k _ c.requires refl (sym c.is_near_to.ensures.test ∙ far)) }

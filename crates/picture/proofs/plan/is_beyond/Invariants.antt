@@ -8,7 +8,7 @@ use Rattle.picture.specs.Plan.{place_in}
 use Rattle.picture.proofs.plan.is_beyond.Given as goal
 
 abbrev pub invariant-loop-v : goal.invariant-loop-v
-invariant-loop-v l = (l.v ≤ l.p.visible) × (l.beyond ≡ some (λ i. ends_beyond (pixel_bits l.p.control) l.memory (place_in l.p i)) (4 * l.v))
+invariant-loop-v l = (l.v ≤ l.plan.visible) × (l.beyond ≡ some (λ i. ends_beyond (pixel_bits l.plan.control) l.memory (place_in l.plan i)) (4 * l.v))
 
 abbrev pub decreases-loop-v : goal.decreases-loop-v
-decreases-loop-v l = l.p.visible - l.v
+decreases-loop-v l = l.plan.visible - l.v

@@ -4,4 +4,4 @@ use Rattle.registers.proofs.map.place_of.Goals as goal
 
 pub returns : goal.returns
 unfolding place_of
-returns c = record { place = rw (c.row.ensures.chosen, c.less.ensures.difference, c.row-mask.ensures.chosen, c.row-control.ensures.chosen, c.row-top.ensures.chosen, c.high_place_of.ensures.place) }
+returns c = record { place = rw (c.row.ensures.chosen, c.saturating_sub.ensures, c.row-mask.ensures.chosen, c.row-control.ensures.chosen, c.row-top.ensures.chosen, c.high_place_of.ensures.place) }

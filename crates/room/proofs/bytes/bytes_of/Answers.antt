@@ -1,17 +1,9 @@
 -- `room::bytes::bytes_of` meets its contract: one number more at each turn.
-use mathlib.Core.Path.{◌≡◌}
-use native.Mathlib.Nat.{zero-add}
-use Rattle.room.proofs.Laying.{laid_none, laid_next}
+use mathlib.Core.Path.{refl}
+use lib.ListN.{replicate}
+use Rattle.room.proofs.Laying.{laid_whole}
 use native.Mathlib.Omega.{arith}
 use Rattle.room.proofs.bytes.bytes_of.Goals as goal
 
-pub loop-k-init : goal.loop-k-init
-loop-k-init c = (omega arith, laid_none _ _ _)
-
-pub loop-k-preserved : goal.loop-k-preserved
-loop-k-preserved c = (omega arith, rw (zero-add c.loop-k.k) at (laid_next _ _ _ _ _ _ c.loop-k.invariant.1 c.byte_of.ensures.byte))
-
 pub returns : goal.returns
-returns c =
-    let e : c.loop-k.k ≡ 80 = omega arith in
-    record { bytes = rw e at c.loop-k.invariant.1 }
+returns c = record { bytes = laid_whole _ (replicate 80 0) _ 80 c.loop-k-test.array_long refl (λ k h. c.loop-k.invariant k (omega arith)) }

@@ -1,11 +1,8 @@
 -- `room::bytes::fill` meets its contract: one byte more at each turn, its value kept exactly.
-use Prim.Native.Nat.{◌+◌, ◌*◌, ◌%◌, ◌≤◌, ◌-◌}
+use Prim.Native.Nat.{ℕ, ◌+◌, ◌*◌, ◌%◌, ◌<◌}
 use mathlib.Core.Path.{◌≡◌}
-use Rattle.room.specs.Room.{laid}
+use lib.ListN.{get_or}
 use Rattle.room.proofs.bytes.fill.Given as goal
 
-abbrev pub invariant-loop-i : goal.invariant-loop-i
-invariant-loop-i l = ((l.i ≤ l.count) × (l.value ≡ (l.start + l.i * l.step) % 256)) × (l.memory ≡ laid (λ k. (l.start + k * l.step) % 256) l.initial.memory l.at l.i)
-
-abbrev pub decreases-loop-i : goal.decreases-loop-i
-decreases-loop-i l = l.count - l.i
+abbrev pub invariant-loop-byte : goal.invariant-loop-byte
+invariant-loop-byte l = (l.value ≡ (l.start + l.byte-index * l.step) % 256) × ((k : ℕ) → k < l.byte-index → get_or l.byte-items k 0 ≡ (l.start + k * l.step) % 256)

@@ -8,5 +8,5 @@ use Rattle.scribe.proofs.ending.put_end.Goals as goal
 pub returns : goal.returns
 unfolding places decimal_text
 returns c =
-    let rest_of_it = either_put end_text _ _ refl refl c.args.interlaced _ _ _ _ (c.put_either.ensures.place, c.put_either.ensures.bytes) in
-    record { place = rest_of_it.0; bytes = rest_of_it.1 }
+    let puts = either_put end_text _ _ refl refl c.args.interlaced _ _ _ _ (c.put_either.ensures.place, c.put_either.ensures.bytes) in
+    record { place = puts.0; bytes = puts.1 }

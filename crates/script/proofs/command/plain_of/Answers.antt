@@ -3,4 +3,4 @@ use Rattle.script.proofs.command.Cases.{plain_made}
 use Rattle.script.proofs.command.plain_of.Goals as goal
 
 pub returns : goal.returns
-returns c = record { command = plain_made _ _ _ _ _ _ _ c.numbers_for-left.ensures.numbers c.no_numbers.ensures.numbers c.rest_fault-later.ensures.fault c.first-fault.ensures.chosen }
+returns c = record { command = plain_made _ _ _ _ _ _ _ c.numbers_for-left.ensures.numbers c.no_numbers.ensures.numbers c.rest_fault-later.ensures.fault c.choose-fault.ensures.chosen }

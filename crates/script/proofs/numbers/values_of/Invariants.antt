@@ -1,5 +1,5 @@
 -- `script::numbers::values_of` meets its contract: the words from the place reached on are those from k on.
-use Prim.Native.Nat.{ℕ, ◌+◌, ◌≤◌, ◌-◌}
+use Prim.Native.Nat.{ℕ, ◌+◌}
 use mathlib.Core.Path.{◌≡◌}
 use lib.ListN.{drop}
 use Rattle.words.specs.Words.{word_at}
@@ -7,7 +7,4 @@ use Rattle.script.specs.Arguments.{fault_up_to, values_up_to}
 use Rattle.script.proofs.numbers.values_of.Given as goal
 
 abbrev pub invariant-loop-k : goal.invariant-loop-k
-invariant-loop-k l = ((l.k ≤ l.count) × (l.fault ≡ fault_up_to l.plain l.rest l.k)) × ((l.values ≡ values_up_to l.plain l.rest l.k) × ((j : ℕ) → word_at j (drop l.at l.rest) ≡ word_at (l.k + j) l.rest))
-
-abbrev pub decreases-loop-k : goal.decreases-loop-k
-decreases-loop-k l = l.count - l.k
+invariant-loop-k l = (l.fault ≡ fault_up_to l.plain l.rest l.k) × ((l.values ≡ values_up_to l.plain l.rest l.k) × ((j : ℕ) → word_at j (drop l.at l.rest) ≡ word_at (l.k + j) l.rest))

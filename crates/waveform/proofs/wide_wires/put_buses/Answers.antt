@@ -1,8 +1,11 @@
--- `waveform::wide_wires::put_buses` meets its contract.
-use Rattle.room.proofs.Laying.{put_joined, put_one}
+-- `waveform::wide_wires::put_buses` meets its contract: one wire more at each turn.
+use Rattle.waveform.proofs.WireByWire.{left_next, left_none}
 use Rattle.waveform.proofs.wide_wires.put_buses.Goals as goal
+
+pub loop-mark-preserved : goal.loop-mark-preserved
+loop-mark-preserved c = left_next _ _ _ _ _ _ _ _ _ _ c.loop-mark.invariant (rw c.wires-mark-items.ensures.wires c.loop-mark-test.true) c.put_bus-end.ensures.place c.put_bus-end.ensures.bytes
 
 pub returns : goal.returns
 returns c =
-    let puts = put_joined (put_one _ _ _ _ _ c.put_bus-address.ensures.place c.put_bus-address.ensures.bytes) (put_joined (put_one _ _ _ _ _ c.put_bus-first.ensures.place c.put_bus-first.ensures.bytes) (put_joined (put_one _ _ _ _ _ c.put_bus-second.ensures.place c.put_bus-second.ensures.bytes) (put_joined (put_one _ _ _ _ _ c.put_bus-third.ensures.place c.put_bus-third.ensures.bytes) (put_one _ _ _ _ _ c.put_bus.ensures.place c.put_bus.ensures.bytes)))) in
-    record { place = puts.place; bytes = puts.bytes }
+    let puts = rw c.wires-mark-items.ensures.wires at (left_none _ _ _ _ _ _ _ c.loop-mark.invariant (rw c.wires-mark-items.ensures.wires c.loop-mark-test.false)) in
+    record { place = puts.0; bytes = puts.1 }

@@ -1,2 +1,0 @@
--- What the proof of `entry` uses.
-mod Cases

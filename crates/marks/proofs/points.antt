@@ -1,2 +1,0 @@
--- Laws of points.
-mod Cases

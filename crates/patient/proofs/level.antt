@@ -1,2 +1,0 @@
--- Laws of levels.
-mod Cases

@@ -1,2 +1,0 @@
--- Laws of a patient's thresholds.
-mod Cases

@@ -1,2 +1,0 @@
--- Laws of phrases.
-mod Cases

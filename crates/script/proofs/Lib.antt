@@ -1,2 +1,0 @@
--- Laws of a whole line.
-mod Cases
