@@ -65,6 +65,7 @@ fn four_at(interlaced: bool, i: u32) -> Option<Point>
 }
 
 // Four pixels of one line, from p on, in a byte.
+// As it is: no plainer; `packed` names the four entries, and a fold over 0..4 has to carry a bound that keeps the byte within a u8.
 fn four_from(chart: &Chart, p: Point) -> u8
     requires { p.x ≤ 636 }
     ensures byte { result ≡ four_from chart.now.right chart.now.left p }

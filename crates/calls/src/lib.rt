@@ -76,7 +76,7 @@ struct Passed {
 // Ticks before VDisplay, as many as are due and no further than its first: nothing shows there, and only the place moves.
 fn pass_dark(n: Numbers, g: Generator, halves: u64, due: u32) -> Passed
     requires runs { Runs (bare n) g }
-    requires halves_value { (halves ≡ halves_to_vdisplay (screen (bare n))) × (g.half.0 < halves) × (0 < due) }
+    requires dark { (halves ≡ halves_to_vdisplay (screen (bare n))) × (g.half.0 < halves) × (0 < due) }
     ensures ticks { Passes (screen (bare n)) g due result }
 {
     let params = n.params;

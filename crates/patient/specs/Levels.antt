@@ -18,6 +18,11 @@ plain_number word = cond (eqb (get_or word 0 0) 35) (Err NotANumber) (number_of 
 abbrev pub dash : List ℕ → Bool
 dash word = eqb (length word) 1 && eqb (get_or word 0 0) 45
 
+-- what is wrong with a level that is no number, or one beyond all
+abbrev pub number_fault : NumberFault → Fault
+number_fault NotANumber = NotALevel
+number_fault TooLarge = OutOfRange
+
 -- a number up to the most: no number is no level, and one beyond the most is out of range
 abbrev pub in_range : Result ℕ NumberFault → ℕ → Result ℕ Fault
 in_range (Err NotANumber) most = Err NotALevel

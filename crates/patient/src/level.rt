@@ -25,11 +25,11 @@ fn in_range(n: Result<u32, NumberFault>, most: u32) -> Result<u32, Fault>
     ensures number { result ≡ in_range n most }
     ensures bound { IfOk result (λ value. value ≤ most) }
 {
-    match n {
-        Ok(value) if value <= most => Ok(value),
-        Ok(_) | Err(NumberFault::TooLarge) => Err(Fault::OutOfRange),
-        Err(NumberFault::NotANumber) => Err(Fault::NotALevel),
+    let value = n?;
+    if most < value {
+        return Err(Fault::OutOfRange);
     }
+    Ok(value)
 }
 
 // A level so many dB above -10.

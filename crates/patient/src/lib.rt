@@ -26,6 +26,21 @@ pub enum Fault {
     TooLong,
 }
 
+// A number's fault as a level's.
+impl From<NumberFault> for Fault {
+    ghost use Rattle.std.specs.Prelude.{◌≡◌};
+    ghost use Rattle.patient.specs.Levels.{number_fault};
+
+    ghost from_gives = { λ n fault. fault ≡ number_fault n };
+
+    fn from(n: NumberFault) -> Fault {
+        match n {
+            NumberFault::NotANumber => Fault::NotALevel,
+            NumberFault::TooLarge => Fault::OutOfRange,
+        }
+    }
+}
+
 // In Hz, left to right.
 const FREQUENCIES: [u32; 11] = [125, 250, 500, 750, 1000, 1500, 2000, 3000, 4000, 6000, 8000];
 

@@ -49,20 +49,19 @@ pub fn blank_page(form: u32) -> Page
 pub fn turn(p: Page, waiting: usize) -> Page
     ensures page { result ≡ turned p waiting }
 {
-    let mut next = p;
-    next.waiting = waiting;
-    next
+    Page { waiting, ..p }
 }
 
 // The page after one tick more.
 fn count(p: Page, waiting: usize, s: Signals) -> Page
     ensures page { result ≡ counted p waiting s }
 {
-    let mut next = p;
-    next.waiting = waiting;
-    next.ticks = input::one_more(p.ticks);
-    next.last = s;
-    next
+    Page {
+        waiting,
+        ticks: input::one_more(p.ticks),
+        last: s,
+        ..p
+    }
 }
 
 // Writes what waits. A write that fails is not told of.
@@ -88,9 +87,10 @@ pub fn space<W: Write>(p: Page, out: &[u8], said: &mut W) -> Page
 pub fn next_line<W: Write>(p: Page, out: &[u8], said: &mut W) -> Page
     ensures page { result ≡ next_line p }
 {
-    let mut page = space(p, out, said);
-    page.lines = input::one_more(p.lines);
-    page
+    Page {
+        lines: input::one_more(p.lines),
+        ..space(p, out, said)
+    }
 }
 
 // A refusal.

@@ -9,16 +9,16 @@ use room::put;
 use signals::Signals;
 
 // The four pixels of a tick, and the line's end.
+#[tactic(auto, unfolding(room::specs::Room::put_texts, room::specs::Room::put_ends, room::specs::Room::texts_of), using(room::proofs::Laying::puts))]
 fn put_colours(room: &mut [u8], at: usize, s: Signals) -> usize
     ensures place { result ≡ put_ends room.old at (dots_texts s) }
     ensures bytes { room.new ≡ put_texts room.old at (dots_texts s) }
 {
-    let dots = s.dots;
-    let first = put_colour(room, at, dots[0].colour);
-    let second = put_colour(room, first, dots[1].colour);
-    let third = put_colour(room, second, dots[2].colour);
-    let fourth = put_colour(room, third, dots[3].colour);
-    put(room, fourth, b"\n")
+    let mut end = at;
+    for dot in s.dots {
+        end = put_colour(room, end, dot.colour);
+    }
+    put(room, end, b"\n")
 }
 
 // A tick's line.

@@ -1,6 +1,6 @@
 // The thirteen names of a script's commands (docs/SCRIPT.md), and what a command of each does.
-ghost use Rattle.std.specs.Prelude.{◌≡◌, ◌≤◌, length, map};
-ghost use Rattle.script.specs.Names.{name_from, name_of, kind_of};
+ghost use Rattle.std.specs.Prelude.{◌≡◌, ◌≤◌};
+ghost use Rattle.script.specs.Names.{name_of, kind_of};
 
 // The names, in docs/SCRIPT.md's order.
 // As it is: numbers, since `kind_of`, and with a `Command` `changes::apply`, `questions::answer` and `ticks_of`, take any name's number.
@@ -61,23 +61,13 @@ const WORDS: [&[u8]; 13] = [
     b"field", b"store", b"compare",
 ];
 
-// The place of a word among words; where it is none of them, how many they are.
-fn place_of(word: &[u8], words: &[&[u8]]) -> usize
-    ensures place { result ≡ name_from 0 (map (λ w. w.now) words.now) word.now }
-    ensures bound { result ≤ length words.now }
-{
-    for (k, name) in words.iter().enumerate() {
-        if word == *name {
-            return k;
-        }
-    }
-    words.len()
-}
-
-// A word's name.
+// A word's name: its place among the words.
 pub fn name_of(word: &[u8]) -> u32
     ensures name { result ≡ name_of word.now }
     ensures bound { result ≤ 13 }
 {
-    place_of(word, &WORDS) as u32
+    WORDS
+        .iter()
+        .position(|name| word == *name)
+        .map_or(UNKNOWN, |place| place as u32)
 }

@@ -152,6 +152,7 @@ fn argument_of(word: &[u8], k: usize, plain: usize) -> Result<u32, NumberFault>
 }
 
 // A number's fault as a line's, or 0.
+// As it is: no plainer; a line's fault is a number in `Command`, 0 for none, and a `From` of a Result needs the same match.
 fn fault_of(n: Result<u32, NumberFault>) -> u32
     ensures fault { result ≡ fault_of n }
 {

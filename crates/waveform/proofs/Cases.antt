@@ -8,11 +8,11 @@ use Rattle.waveform.specs.WideWires.{buses_differ}
 use Rattle.waveform.specs.Waveform.{wire_texts, tick_texts}
 use Rattle.signals.specs.declared.Signals.{Signals}
 
-module _ (first : Bool) (k : ℕ) (before s : Signals) (levels buses : Bool) (el : levels ≡ levels_differ before s) (eb : buses ≡ buses_differ before s) where
-  pub tick_written : (first || (levels || buses)) ≡ true → tick_texts first k before s ≡ wire_texts first k before s
+module _ (first : Bool) (k : ℕ) (before s : Signals) (other : Bool) (e : other ≡ (levels_differ before s || buses_differ before s)) where
+  pub tick_written : (first || other) ≡ true → tick_texts first k before s ≡ wire_texts first k before s
   unfolding tick_texts
-  tick_written t = rw (← el, ← eb, t)
+  tick_written t = rw (← e, t)
 
-  pub tick_still : (first || (levels || buses)) ≡ false → tick_texts first k before s ≡ []
+  pub tick_still : (first || other) ≡ false → tick_texts first k before s ≡ []
   unfolding tick_texts
-  tick_still t = rw (← el, ← eb, t)
+  tick_still t = rw (← e, t)

@@ -1,4 +1,4 @@
 -- Laws of a waveform's text.
 mod Cases
 mod WireByWire
-mod Any
+mod Changed

@@ -26,9 +26,6 @@ level_wires before s =
     (102, before.transfer, s.transfer) ∷
     []
 
-abbrev pub level_differs : ℕ × Bool × Bool → Bool
-level_differs wire = differ wire.1 wire.2
-
 abbrev pub wire_change : Bool → ℕ × Bool × Bool → List ℕ
 wire_change all wire = level_change all wire.0 wire.1 wire.2
 

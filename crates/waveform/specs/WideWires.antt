@@ -30,9 +30,6 @@ bus_wires before s =
     (107, pixel_colour before 3, pixel_colour s 3) ∷
     []
 
-abbrev pub bus_differs : ℕ × ℕ × ℕ → Bool
-bus_differs wire = not (eqb wire.1 wire.2)
-
 abbrev pub wire_change : Bool → ℕ × ℕ × ℕ → List ℕ
 wire_change all wire = bus_change all wire.0 wire.1 wire.2
 

@@ -1,7 +1,7 @@
 // The one-bit wires in a waveform (a VCD file): the text of a level, and those that a tick changes.
 ghost use Rattle.std.specs.Prelude.{◌≡◌, length};
 ghost use Rattle.room.specs.Room.{put_text, put_end, put_texts, put_ends};
-ghost use Rattle.waveform.specs.BitWires.{level_text, level_change, level_wires, level_changes, levels_differ};
+ghost use Rattle.waveform.specs.BitWires.{level_text, level_change, level_wires, level_changes};
 
 use signals::Signals;
 
@@ -45,11 +45,4 @@ pub fn put_levels(room: &mut [u8], at: usize, all: bool, b: Signals, s: Signals)
         end = put_level(room, end, all, mark, before, level);
     }
     end
-}
-
-// Some one-bit wire differs.
-pub fn levels_differ(b: Signals, s: Signals) -> bool
-    ensures test { result ≡ levels_differ b s }
-{
-    wires(b, s).iter().any(|(_, before, level)| before != level)
 }

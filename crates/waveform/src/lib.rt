@@ -27,9 +27,7 @@ pub fn put_tick(room: &mut [u8], at: usize, first: bool, k: u64, b: Signals, s: 
     ensures place { result ≡ put_ends room.old at (tick_texts first k b s) }
     ensures bytes { room.new ≡ put_texts room.old at (tick_texts first k b s) }
 {
-    let levels = bit_wires::levels_differ(b, s);
-    let buses = wide_wires::buses_differ(b, s);
-    if first | (levels | buses) {
+    if first | (b != s) {
         return put_wires(room, at, first, k, b, s);
     }
     at

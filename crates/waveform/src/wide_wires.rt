@@ -1,7 +1,7 @@
 // The wires of 24 bits in a waveform (a VCD file): the text of a number, and those that a tick changes.
 ghost use Rattle.std.specs.Prelude.{◌≡◌, ◌+◌, ◌/◌, ◌%◌, ◌^◌, ◌<◌, length};
 ghost use Rattle.room.specs.Room.{put_text, put_end, put_texts, put_ends};
-ghost use Rattle.waveform.specs.WideWires.{bus_text, bus_change, bus_wires, bus_changes, buses_differ};
+ghost use Rattle.waveform.specs.WideWires.{bus_text, bus_change, bus_wires, bus_changes};
 
 use signals::Signals;
 
@@ -61,11 +61,4 @@ pub fn put_buses(room: &mut [u8], at: usize, all: bool, b: Signals, s: Signals) 
         end = put_bus(room, end, all, mark, before, value);
     }
     end
-}
-
-// Some wire of 24 bits differs.
-pub fn buses_differ(b: Signals, s: Signals) -> bool
-    ensures test { result ≡ buses_differ b s }
-{
-    wires(b, s).iter().any(|(_, before, value)| before != value)
 }

@@ -82,8 +82,8 @@ fn byte_in(picture: &[u8], p: Part, k: u64) -> u8
 
 // The first `count` bytes of a room become a row's.
 fn lay(room: &mut [u8], picture: &[u8], p: Part, count: u64)
-    requires count_in_bounds { count ≤ length room.old }
-    requires count_bound { p.begin + (p.above + count) < 2 ^ 64 }
+    requires fits { count ≤ length room.old }
+    requires small { p.begin + (p.above + count) < 2 ^ 64 }
     ensures bytes { room.new ≡ run (byte_in picture.now p) 0 count ++ drop count room.old }
 {
     for (k, byte) in room[..count as usize].iter_mut().enumerate() {

@@ -20,7 +20,7 @@ loop-done-init c = (omega arith, ran_first _ _, c.requires)
 
 pub loop-done-preserved-then-now-halves : goal.loop-done-preserved-then-now-halves
 loop-done-preserved-then-now-halves c =
-    let due : c.loop-done.done < c.args.count = test_below _ _ _ c.loop-done-test.true in
+    let due = test_below c.loop-done.done c.args.count _ c.loop-done-test.true in
     let file : Registers = let a = c.args in file_with a.n a.tables in
     let dark : (running (file).control ≡ true) × (c.dark_halves-halves.result ≡ halves_to_vdisplay (screen (file))) = dark_runs _ _ _ _ c.dark_halves-halves.ensures.halves c.if-now-halves.true in
     let runs : Runs (file) c.loop-done.now = let z = c.loop-done.invariant.2 in record { runs = dark.0; accepted = z.accepted dark.0; placed = z.placed dark.0 } in
@@ -30,12 +30,10 @@ loop-done-preserved-then-now-halves c =
 
 pub returns-then-refusal-ne0 : goal.returns-then-refusal-ne0
 returns-then-refusal-ne0 c =
-    let due : c.loop-done.done < c.args.count = test_below _ _ _ c.loop-done-test.true in
     let l = c.loop-done in
-    record { part = part_refused _ _ _ _ _ _ _ l.invariant.0 l.invariant.1 l.invariant.2 _ c.tick_with-t.ensures.ticked c.if-refusal-ne0.true (due) }
+    record { part = part_refused _ _ _ _ _ _ _ l.invariant.0 l.invariant.1 l.invariant.2 _ c.tick_with-t.ensures.ticked c.if-refusal-ne0.true (test_below _ _ _ c.loop-done-test.true) }
 
 pub loop-done-preserved : goal.loop-done-preserved
 loop-done-preserved c =
-    let due : c.loop-done.done < c.args.count = test_below _ _ _ c.loop-done-test.true in
     let l = c.loop-done in
-    (omega (arith, due), ran_next _ _ _ _ _ _ l.invariant.1 c.tick_with-t.ensures.ticked c.if-refusal-ne0.false, rw c.tick_with-t.ensures.ticked (tick_sound _ _ _ l.invariant.2))
+    (omega (arith, test_below l.done c.args.count _ c.loop-done-test.true), ran_next _ _ _ _ _ _ l.invariant.1 c.tick_with-t.ensures.ticked c.if-refusal-ne0.false, rw c.tick_with-t.ensures.ticked (tick_sound _ _ _ l.invariant.2))

@@ -1,47 +1,43 @@
--- A word's place among words, word by word. Assumes nothing.
-use Prim.Native.Nat.{ℕ, ◌+◌, ◌≤◌, ◌<◌}
-use mathlib.Core.Bool.{Bool, true, false}
+-- A word's name is its place among the words, or how many they are. Assumes nothing.
+use Prim.Native.Nat.{ℕ, ◌+◌}
+use mathlib.Core.Bool.{Bool, true, false, cond}
 use mathlib.Core.List.{List, [], ◌∷◌, map}
-use mathlib.Core.Path.{◌≡◌, refl, sym, ◌∙◌}
+use mathlib.Core.Path.{◌≡◌, refl, sym}
 use native.Mathlib.Omega.{arith}
 use lib.Dec.{eqb}
-use lib.ListN.{length, get_or, drop}
+use lib.ListN.{length}
 use lib.Pointwise.{pointwise}
-use Rattle.std.proofs.Common.{add-one, drop-cons}
-use Rattle.std.proofs.lemmas.List.{drop_all}
+use Rattle.std.specs.Prelude.{Option, None, Some, MatchOption, unwrap_or}
+use Rattle.std.specs.List.{position_from}
+use Rattle.std.proofs.Common.{add-one}
 use Rattle.vault.specs.Compare.{match}
 use Rattle.script.specs.Names.{name_from}
 
 -- the test that two lists are one is their match
-pub same_match : (a b : List ℕ) → pointwise eqb a b ≡ match a b
+same_match : (a b : List ℕ) → pointwise eqb a b ≡ match a b
 unfolding match
 same_match [] [] = refl
 same_match [] (y ∷ b) = refl
 same_match (x ∷ a) [] = refl
 same_match (x ∷ a) (y ∷ b) = rw (same_match a b) refl
 
-module _ {W : Type 0} (text : W → List ℕ) (words : List W) (word : List ℕ) (k : ℕ) where
-  -- the place among the words from k on is that among all
-  abbrev pub Reached : Type 0
-  Reached = name_from k (map text (drop k words)) word ≡ name_from 0 (map text words) word
+-- a place, or what stands for none
+pub answered : {P : ℕ → Type 0} (place : Option ℕ) (none n : ℕ) → MatchOption place (n ≡ none) P → ((k : ℕ) → P k → n ≡ k) → n ≡ unwrap_or place none
+answered None none n e f = e
+answered (Some k) none n e f = f k e
 
-  module _ (d : W) (t : Bool) (h : k < length words) (r : Reached) (e : t ≡ pointwise eqb word (text (get_or words k d))) where
-    here : name_from k (text (get_or words k d) ∷ map text (drop (k + 1) words)) word ≡ name_from 0 (map text words) word
-    here = rw add-one (rw (drop-cons words k d) at r)
+next : (t : Bool) (k : ℕ) (place : Option ℕ) (n later : ℕ) → unwrap_or place (k + 1 + n) ≡ later → unwrap_or (cond t (Some k) place) (k + (n + 1)) ≡ cond t k later
+next true k place n later e = refl
+next false k place n later e =
+    let same : k + (n + 1) ≡ k + 1 + n = omega arith in
+    rw same e
 
-    tested : match word (text (get_or words k d)) ≡ t
-    tested = sym (same_match word (text (get_or words k d))) ∙ sym e
+module _ {W : Type 0} (text : W → List ℕ) (word : List ℕ) where
+  abbrev pub is_word : W → Bool
+  is_word w = pointwise eqb word (text w)
 
-    pub place_here : t ≡ true → k ≡ name_from 0 (map text words) word
-    unfolding name_from
-    place_here b = rw (tested, b) at here
-
-    pub place_next : t ≡ false → name_from (k + 1) (map text (drop (k + 1) words)) word ≡ name_from 0 (map text words) word
-    unfolding name_from
-    place_next b = rw add-one (rw (tested, b, add-one) at here)
-
-  pub place_none : length words ≤ k → k ≤ length words → Reached → length words ≡ name_from 0 (map text words) word
+  -- the first of the words from k on that is the word gives its name
+  pub name_at : (k : ℕ) (words : List W) → unwrap_or (position_from is_word k words) (k + length words) ≡ name_from k (map text words) word
   unfolding name_from
-  place_none h b r =
-      let e : length words ≡ k = omega arith in
-      e ∙ rw drop_all at r
+  name_at k [] = omega arith
+  name_at k (w ∷ words) = rw (sym (same_match word (text w)), sym (add-one k), sym (add-one (length words))) (next (is_word w) k _ _ _ (name_at (k + 1) words))

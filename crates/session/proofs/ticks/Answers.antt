@@ -10,8 +10,10 @@ use Rattle.generator.specs.declared.Generator.{Generator}
 use Rattle.generator.specs.declared.Ticked.{Ticked}
 use Rattle.generator.proofs.Kept.{tick_sound}
 use Rattle.calls.proofs.Running.{ran_first, ran_next, ran_refused}
+use Rattle.questions.specs.Answers.{Shown}
+use Rattle.report.specs.declared.Page.{Page}
 use Rattle.changes.proofs.Laws.{run_done_lem}
-use Rattle.session.proofs.Showing.{leaves, ticks_all, ticks_none, ticks_next, ticks_refused}
+use Rattle.session.proofs.Showing.{Leaves, leaves, shown, ticks_all, ticks_none, ticks_next, ticks_refused}
 use Rattle.session.proofs.ticks.Goals as goal
 
 pub loop-ticks-init : goal.loop-ticks-init
@@ -28,13 +30,16 @@ tick_with-next-requires g c =
 ticked : (r other : Registers) → r ≡ other → (memory : List ℕ) (g : Generator) (t : Ticked) → t ≡ tick_of r memory g → t ≡ tick_of other memory g
 ticked r other e memory g t et = et ∙ ap (λ (x : Registers). tick_of x memory g) e
 
+-- what is shown once no tick is left is the page and its bytes
+ended : (left all : Shown) → left ≡ all → (page : Page) (bytes : List ℕ) → left ≡ shown page bytes → Leaves all page bytes
+ended left all e page bytes p = leaves all (shown page bytes) (sym e ∙ p) page bytes (refl, refl)
+
 pub returns-then-refusal-ne0 : goal.returns-then-refusal-ne0
 returns-then-refusal-ne0 g c =
     let l = c.loop-ticks in
     let e = ticked _ _ l.invariant.0 _ _ _ c.tick_with-next.ensures.ticked in
-    let s = ticks_refused _ _ _ _ _ _ e _ _ (c.show_tick-page.ensures.page, c.show_tick-page.ensures.bytes) _ _ c.loop-ticks-test.true c.if-refusal-ne0.true in
-    let rest_of_it = leaves _ _ (sym l.invariant.3 ∙ s) _ _ (refl, refl) in
-    record { done = run_done_lem _ _ _ _ refl _ _ (ran_refused _ _ _ _ _ _ l.invariant.1 e c.if-refusal-ne0.true _ c.loop-ticks-test.true); sound = rw e (tick_sound _ _ _ l.invariant.2); page = rest_of_it.0; bytes = rest_of_it.1 }
+    let last = ended _ _ l.invariant.3 _ _ (ticks_refused _ _ _ _ _ _ e _ _ (c.show_tick-page.ensures.page, c.show_tick-page.ensures.bytes) _ _ c.loop-ticks-test.true c.if-refusal-ne0.true) in
+    record { done = run_done_lem _ _ _ _ refl _ _ (ran_refused _ _ _ _ _ _ l.invariant.1 e c.if-refusal-ne0.true _ c.loop-ticks-test.true); sound = rw e (tick_sound _ _ _ l.invariant.2); page = last.0; bytes = last.1 }
 
 pub loop-ticks-preserved : goal.loop-ticks-preserved
 loop-ticks-preserved g c =
@@ -47,6 +52,5 @@ pub returns : goal.returns
 returns g c =
     let l = c.loop-ticks in
     let e : l.ticks ≡ c.args.count = omega arith in
-    let s = ticks_none _ _ _ _ _ c.args.count l.ticks (omega arith) in
-    let rest_of_it = leaves _ _ (sym l.invariant.3 ∙ s) _ _ (refl, refl) in
-    record { done = run_done_lem _ _ _ _ refl _ _ (rw e at l.invariant.1); sound = l.invariant.2; page = rest_of_it.0; bytes = rest_of_it.1 }
+    let last = ended _ _ l.invariant.3 _ _ (ticks_none _ _ _ _ _ c.args.count l.ticks (omega arith)) in
+    record { done = run_done_lem _ _ _ _ refl _ _ (rw e at l.invariant.1); sound = l.invariant.2; page = last.0; bytes = last.1 }

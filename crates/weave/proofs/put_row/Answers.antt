@@ -13,8 +13,8 @@ part_of-p-requires c = (row_small _ _ _ c.if-is_row.ensures.holds).0
 pub lay-requires : goal.lay-requires
 lay-requires c =
     let a = c.args in
-    let small = row_small a.w a.row (length a.room.now) c.if-is_row.ensures.holds in
-    record { count_in_bounds = small.1; count_bound = rw c.part_of-p.ensures.part (omega (arith, small.0)) }
+    let row = row_small a.w a.row (length a.room.now) c.if-is_row.ensures.holds in
+    record { fits = row.1; small = rw c.part_of-p.ensures.part (omega (arith, row.0)) }
 
 pub returns-then-is_row : goal.returns-then-is_row
 returns-then-is_row c =
