@@ -56,11 +56,11 @@ module _ (n : Bool) (right left : List ℕ) (i : ℕ) where
       go true e = rw (holds_next i j h n, e) (ap (entry_at right left) (pixel_next i j h n e))
       go false e = rw (holds_next i j h n, e)
 
-  byte_held : holds n (4 * i) ≡ true → four_from right left (pixel_of n (4 * i)) ≡ byte_at n right left i
+  pub byte_held : holds n (4 * i) ≡ true → four_from right left (pixel_of n (4 * i)) ≡ byte_at n right left i
   unfolding byte_at entry_of
   byte_held e = rw (entry_next 1 (omega arith), entry_next 2 (omega arith), entry_next 3 (omega arith), e)
 
-  byte_paper : holds n (4 * i) ≡ false → 0 ≡ byte_at n right left i
+  pub byte_paper : holds n (4 * i) ≡ false → 0 ≡ byte_at n right left i
   unfolding byte_at entry_of
   byte_paper e = rw (entry_next 1 (omega arith), entry_next 2 (omega arith), entry_next 3 (omega arith), e)
 

@@ -49,10 +49,10 @@ fn poke<W: Write>(script: &mut W, out: &mut [u8], waiting: usize, part: &[u8], a
 // The picture memory, 64 bytes a line.
 fn pokes<W: Write>(script: &mut W, out: &mut [u8], at: usize, memory: &[u8]) -> usize {
     let mut waiting = at;
-    let mut place: u32 = 0;
+    let mut from: usize = 0;
     for part in memory.chunks(64) {
-        waiting = poke(script, out, waiting, part, place);
-        place = place.saturating_add(64);
+        waiting = poke(script, out, waiting, part, (from % 0x1000000) as u32);
+        from = room::later(from, 64, memory.len());
     }
     waiting
 }
@@ -82,7 +82,7 @@ fn phrase(fault: Fault) -> &'static [u8] {
         Fault::NotALevel => b"level not a number\n",
         Fault::OutOfRange => b"level out of range, -10 to 120\n",
         Fault::NotAStep => b"level not a step of 5\n",
-        Fault::TooLong => b"line too long\n",
+        Fault::TooLong | Fault::Other(_) => b"line too long\n",
     }
 }
 

@@ -13,7 +13,7 @@ use crate::level::{level_of, plain_number};
 use crate::thresholds::{Chart, placed};
 use words::number::NumberFault;
 
-// What is wrong with a line.
+// What is wrong with a line. `Other` is a caller's own, by its number: `placed` hands on any, and no line that is read has it.
 #[derive(Clone, Copy, PartialEq, Eq)]
 pub enum Fault {
     UnknownFrequency,
@@ -24,6 +24,7 @@ pub enum Fault {
     OutOfRange,
     NotAStep,
     TooLong,
+    Other(u32),
 }
 
 // A number's fault as a level's.
@@ -46,9 +47,9 @@ const FREQUENCIES: [u32; 11] = [125, 250, 500, 750, 1000, 1500, 2000, 3000, 4000
 
 // A level, and the place past its word.
 #[derive(Clone, Copy)]
-struct Ear {
-    level: Result<u8, Fault>,
-    to: usize,
+pub struct Ear {
+    pub level: Result<u8, Fault>,
+    pub to: usize,
 }
 
 // The number of a frequency, left to right.

@@ -201,7 +201,8 @@ fn do_command<W: Write>(
     Desk { done, page }
 }
 
-// A whole line of the script.
+// A whole line of the script. It is made part of the loop over lines, so that a line that is skipped does not copy the machine twice more.
+#[inline(always)]
 fn do_line<W: Write>(
     d: Desk,
     line: &[u8],

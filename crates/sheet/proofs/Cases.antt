@@ -20,7 +20,7 @@ next_left sheet i = let e : 5 * i + 5 ≡ 5 * (i + 1) = omega arith in rw (drop-
 -- a field is judged: its own refusal, or else that of the fields after it
 module _ (sheet : List ℕ) (i whole : ℕ) (h : i < 14) (kept : refusal_from (drop i tags) (drop (5 * i) sheet) ≡ whole)
     (field : ℕ) (field_is : field ≡ field_refusal (get_or tags i 0) (drop (5 * i) sheet)) where
-  judged : cond (eqb field 0) (refusal_from (drop (i + 1) tags) (drop (5 * (i + 1)) sheet)) field ≡ whole
+  pub judged : cond (eqb field 0) (refusal_from (drop (i + 1) tags) (drop (5 * (i + 1)) sheet)) field ≡ whole
   unfolding refusal_from
   judged = rw (field_is, ← next_left sheet i) (rw (left_from tags i) at kept)
 

@@ -16,7 +16,7 @@ use Rattle.machine.specs.Words.{checksum_words}
 abbrev pub bytes : List ℕ
 bytes = 1 ∷ 0x100 ∷ 0x10000 ∷ []
 
-byte_value : (k : ℕ) → k < 3 → get_or bytes k 0 ≡ 256 ^ k
+pub byte_value : (k : ℕ) → k < 3 → get_or bytes k 0 ≡ 256 ^ k
 byte_value k h = eqb→eq _ _ (entry (λ n value. eqb value (256 ^ n)) bytes tt k h)
 
 pub word_within : (k : ℕ) (sums : Sums) → k < 3 → sums.red / get_or bytes k 0 % 0x100 * 0x10000 + sums.green / get_or bytes k 0 % 0x100 * 0x100 + sums.blue / get_or bytes k 0 % 0x100 ≡ get_or (checksum_words sums) k 0
